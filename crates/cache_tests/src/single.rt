@@ -28,6 +28,7 @@ fn a_job_is_cancelled(rt: HostRuntime) -> Result<(), Fail> {
         claimed: 1,
         done: 1,
         failed: 0,
+        unkept: 0,
         cancelled: true,
     };
     assert!(rt; progress == expected);
@@ -56,6 +57,34 @@ fn a_place_fails(rt: HostRuntime) -> Result<(), Fail> {
         claimed: 1,
         done: 0,
         failed: 1,
+        unkept: 0,
+        cancelled: false,
+    };
+    assert!(rt; sheet.progress(&mut watch) == expected);
+    Ok(())
+}
+
+#[test]
+fn a_place_is_not_kept(rt: HostRuntime) -> Result<(), Fail> {
+    let Some(pair) = new_pair(rt.alloc(), 2)? else {
+        panic!(rt; "no pair")
+    };
+    let Pair {
+        sheet,
+        mut first,
+        mut watch,
+        ..
+    } = pair;
+    let Some(place) = sheet.claim(&mut first) else {
+        panic!(rt; "nothing to claim")
+    };
+    sheet.unkept(&mut first, place);
+    let expected = Progress {
+        places: 2,
+        claimed: 1,
+        done: 1,
+        failed: 0,
+        unkept: 1,
         cancelled: false,
     };
     assert!(rt; sheet.progress(&mut watch) == expected);

@@ -11,15 +11,15 @@ use Rattle.job_board.specs.declared.standing.HandEnd.TheVariants.{Open}
 use Rattle.job_board.specs.declared.standing.SheetStanding.{SheetStanding}
 use Rattle.job_board.specs.Standings.{Later, LaterAccount, account, ending, fresh, gaining, with_account}
 use Rattle.job_board.specs.Hands.{fresh_standing, own_of}
-use Rattle.job_board.specs.SheetCalls.{one_done, one_failed}
+use Rattle.job_board.specs.SheetCalls.{one_done, one_failed, one_unkept}
 
 -- LATER ACCOUNTS
 
 pub same_account : (a : HandAccount) → LaterAccount a a
-same_account a = record { claimed = ([], sym (append-nil a.claimed)); done = omega arith; failed = omega arith; ended = λ _. (refl, refl) }
+same_account a = record { claimed = ([], sym (append-nil a.claimed)); done = omega arith; unkept = omega arith; unkept_done = omega arith; failed = omega arith; ended = λ _. (refl, refl) }
 
-pub after_fresh : (a : HandAccount) → LaterAccount fresh a
-after_fresh a = record { claimed = (a.claimed, refl); done = omega arith; failed = omega arith; ended = λ n. absurd (n refl) }
+pub after_fresh : (a : HandAccount) → a.unkept ≤ a.done → LaterAccount fresh a
+after_fresh a within = record { claimed = (a.claimed, refl); done = omega arith; unkept = omega arith; unkept_done = omega arith; failed = omega arith; ended = λ n. absurd (n refl) }
 
 pub still_later : (a b c : HandAccount) → LaterAccount a b → LaterAccount b c → LaterAccount a c
 still_later a b c p q = record {
@@ -28,6 +28,8 @@ still_later a b c p q = record {
       let n = q.claimed in
       (m.0 ++ n.0, n.1 ∙ (ap (λ (l : List ℕ). l ++ n.0) m.1 ∙ append_assoc a.claimed m.0 n.0));
   done = let m = p.done in let n = q.done in omega arith;
+  unkept = let m = p.unkept in let n = q.unkept in omega arith;
+  unkept_done = let m = p.unkept_done in let n = q.unkept_done in omega arith;
   failed = let m = p.failed in let n = q.failed in omega arith;
   ended = λ ne.
       let m = p.ended ne in
@@ -36,16 +38,19 @@ still_later a b c p q = record {
 }
 
 pub later_gaining : (place : ℕ) (a : HandAccount) → a.end ≡ Open → LaterAccount a (gaining place a)
-later_gaining place a is_open = record { claimed = (place ∷ [], refl); done = omega arith; failed = omega arith; ended = λ n. absurd (n is_open) }
+later_gaining place a is_open = record { claimed = (place ∷ [], refl); done = omega arith; unkept = omega arith; unkept_done = omega arith; failed = omega arith; ended = λ n. absurd (n is_open) }
 
 pub later_ending : (end : HandEnd) (a : HandAccount) → a.end ≡ Open → LaterAccount a (ending end a)
-later_ending end a is_open = record { claimed = ([], sym (append-nil a.claimed)); done = omega arith; failed = omega arith; ended = λ n. absurd (n is_open) }
+later_ending end a is_open = record { claimed = ([], sym (append-nil a.claimed)); done = omega arith; unkept = omega arith; unkept_done = omega arith; failed = omega arith; ended = λ n. absurd (n is_open) }
 
 pub later_done : (a : HandAccount) → LaterAccount a (one_done a)
-later_done a = record { claimed = ([], sym (append-nil a.claimed)); done = omega arith; failed = omega arith; ended = λ _. (refl, refl) }
+later_done a = record { claimed = ([], sym (append-nil a.claimed)); done = omega arith; unkept = omega arith; unkept_done = omega arith; failed = omega arith; ended = λ _. (refl, refl) }
+
+pub later_unkept : (a : HandAccount) → LaterAccount a (one_unkept a)
+later_unkept a = record { claimed = ([], sym (append-nil a.claimed)); done = omega arith; unkept = omega arith; unkept_done = omega arith; failed = omega arith; ended = λ _. (refl, refl) }
 
 pub later_failed : (a : HandAccount) → LaterAccount a (one_failed a)
-later_failed a = record { claimed = ([], sym (append-nil a.claimed)); done = omega arith; failed = omega arith; ended = λ _. (refl, refl) }
+later_failed a = record { claimed = ([], sym (append-nil a.claimed)); done = omega arith; unkept = omega arith; unkept_done = omega arith; failed = omega arith; ended = λ _. (refl, refl) }
 
 -- ONE ACCOUNT OF A STANDING
 
@@ -90,5 +95,5 @@ later_with s k a h p = record { accounts = each_account (λ j b. LaterAccount (a
 pub fresh_at : (n k : ℕ) → get_or (replicate n fresh) k fresh ≡ fresh
 fresh_at n k = dite (dec_lt k n) (λ h. get_or-replicate n k fresh fresh h) (λ h. get_or-eq_default (replicate n fresh) fresh (let l = length-replicate n fresh in omega arith))
 
-pub nothing_yet : (n : ℕ) (now : SheetStanding) → Later (fresh_standing n) now
-nothing_yet n now = record { accounts = λ j. subst (λ a. LaterAccount a (account now j)) (sym (fresh_at n j)) (after_fresh (account now j)); cancelled = λ e. absurd (true≢false (sym e)) }
+pub nothing_yet : (n : ℕ) (now : SheetStanding) → ((k : ℕ) → (account now k).unkept ≤ (account now k).done) → Later (fresh_standing n) now
+nothing_yet n now within = record { accounts = λ j. subst (λ a. LaterAccount a (account now j)) (sym (fresh_at n j)) (after_fresh (account now j) (within j)); cancelled = λ e. absurd (true≢false (sym e)) }

@@ -6,7 +6,7 @@ use native.Mathlib.Decide.{ℕ_discrete}
 use Rattle.job_board.specs.declared.standing.HandAccount.{HandAccount}
 use Rattle.job_board.specs.Standings.{times}
 use Rattle.job_board.specs.Hands.{AreReports}
-use Rattle.job_board.specs.SheetCalls.{one_done, one_failed}
+use Rattle.job_board.specs.SheetCalls.{one_done, one_failed, one_unkept}
 
 -- 1 for the number itself
 abbrev pub one_at : ℕ → ℕ → ℕ
@@ -90,6 +90,13 @@ module _ (a : HandAccount) (done failed : List ℕ) (reports : AreReports a done
 
   pub reports_after_done : AreReports (one_done a) (done ++ place ∷ []) failed
   reports_after_done = record {
+    done_is = let l = length-append done (place ∷ []) in let d = reports.done_is in omega arith;
+    failed_is = reports.failed_is;
+    of_claimed = λ p. let t = times_push p place done in let r = room p in omega arith;
+  }
+
+  pub reports_after_unkept : AreReports (one_unkept a) (done ++ place ∷ []) failed
+  reports_after_unkept = record {
     done_is = let l = length-append done (place ∷ []) in let d = reports.done_is in omega arith;
     failed_is = reports.failed_is;
     of_claimed = λ p. let t = times_push p place done in let r = room p in omega arith;

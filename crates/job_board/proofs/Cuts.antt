@@ -10,7 +10,7 @@ use Rattle.job_board.specs.declared.view.SheetSize.{SheetSize}
 use Rattle.job_board.specs.declared.view.SeatView.{SeatView}
 use Rattle.job_board.specs.Standings.{vain}
 use Rattle.job_board.specs.Hands.{fresh_standing}
-use Rattle.job_board.specs.Views.{Owns, claim_word, dealer, dealt_to, hearing, note_of, one_less, spent}
+use Rattle.job_board.specs.Views.{Owns, claim_word, done_word, dealer, dealt_to, hearing, note_of, one_less, spent}
 use Rattle.job_board.specs.Rule.{Fits, Kept}
 use Rattle.job_board.proofs.Accounts.{nothing_yet, same_standing}
 use Rattle.job_board.proofs.Sound.{no_sum, nothing_sound}
@@ -79,7 +79,7 @@ module _ {S : Type 0} (size : SheetSize) where
       let heard = changed size s r id v b at r.now s.words r.words r.sound (same_standing r.now) (λ k _. refl)
       record { size_is = f.size_is; saw = f.saw; heard = g.saw; owns = f.owns } (λ k o. o) in
       changed size record { words = s.words; homes = s.homes; views = set s.views id b } heard other w spent there r.now s.words r.words r.sound (same_standing r.now) (λ k _. refl)
-      record { size_is = λ e. absurd (true≢false (sym e)); saw = nothing_yet 0 r.now; heard = nothing_yet 0 r.now; owns = λ k o. absurd (nothing k o) }
+      record { size_is = λ e. absurd (true≢false (sym e)); saw = nothing_yet 0 r.now (let s = r.sound in s.unkept); heard = nothing_yet 0 r.now (let s = r.sound in s.unkept); owns = λ k o. absurd (nothing k o) }
       (λ k o. absurd (nothing k o))
     where
       nothing : (k : ℕ) → Owns spent k → ⊥
@@ -112,9 +112,11 @@ begins size = record {
       let a = no_sum size.hands (λ (a : HandAccount). length a.claimed) refl in
       let b = no_sum size.hands (λ (a : HandAccount). vain a.end) refl in
       let c = no_sum size.hands (λ (a : HandAccount). a.done) refl in
+      let u = no_sum size.hands (λ (a : HandAccount). a.unkept) refl in
       let d = no_sum size.hands (λ (a : HandAccount). a.failed) refl in
       let w : 0 ≡ claim_word (fresh_standing size.hands) = omega arith in
-      λ i. w i ∷ sym c i ∷ sym d i ∷ [];
+      let x : 0 ≡ done_word (fresh_standing size.hands) = omega arith in
+      λ i. w i ∷ x i ∷ sym d i ∷ [];
   each = λ at u e. subst (Fits size (fresh_standing size.hands)) (alone_at (dealer size 0) at u e).1 (begins_fitting size);
   alone = λ at at' u u' k e e' o o'. (alone_at (dealer size 0) at u e).0 ∙ sym (alone_at (dealer size 0) at' u' e').0;
 }

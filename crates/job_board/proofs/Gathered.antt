@@ -6,9 +6,9 @@ use native.Mathlib.Decide.{dec_lt}
 use Rattle.job_board.specs.declared.standing.HandAccount.{HandAccount}
 use Rattle.job_board.specs.declared.standing.HandEnd.TheVariants.{AllClaimed, Open}
 use Rattle.job_board.specs.declared.standing.SheetStanding.{SheetStanding}
-use Rattle.job_board.specs.Standings.{HasCause, IsSound, Later, account, claimed_count, claims_of, done_count, failed_count, fresh, times}
+use Rattle.job_board.specs.Standings.{HasCause, IsSound, Later, account, claimed_count, claims_of, done_count, failed_count, fresh, times, unkept_count}
 use Rattle.job_board.specs.Hands.{AreApart, HasGathered, SheetHolding, own, own_of}
-use Rattle.job_board.specs.SheetCalls.{Gathers, HasEnded, ShareOut, claimed_by, claims_by, done_by, failed_by}
+use Rattle.job_board.specs.SheetCalls.{Gathers, HasEnded, ShareOut, claimed_by, claims_by, done_by, failed_by, unkept_by}
 use Rattle.job_board.proofs.Counting.{times_append, times_some}
 
 -- a sum over hands is one over as many accounts, where each two terms are one
@@ -58,7 +58,7 @@ module _ (gatherer : SheetHolding) (hands : List SheetHolding) (sound : IsSound 
 
   -- where each hand has reported all that it claimed, the gatherer has seen the end
   module _ (reported : (k : ℕ) (h : SheetHolding) → slice_get hands k ≡ Some h → (own h).done + (own h).failed ≡ length (own h).claimed) where
-    as_reported : (k : ℕ) (h : SheetHolding) → slice_get hands k ≡ Some h → ((own h).done ≡ (account gatherer.seen k).done) × ((own h).failed ≡ (account gatherer.seen k).failed)
+    as_reported : (k : ℕ) (h : SheetHolding) → slice_get hands k ≡ Some h → ((own h).done ≡ (account gatherer.seen k).done) × ((own h).failed ≡ (account gatherer.seen k).failed) × ((own h).unkept ≡ (account gatherer.seen k).unkept)
     as_reported k h e =
         let g = gathered.each k h e in
         let l = g.1 in
@@ -67,13 +67,18 @@ module _ (gatherer : SheetHolding) (hands : List SheetHolding) (sound : IsSound 
         let f = l.failed in
         let all = reported k h e in
         let within = sound.reported k in
-        (omega arith, omega arith)
+        let u = l.unkept in
+        let v = l.unkept_done in
+        (omega arith, omega arith, omega arith)
 
     done_as_many : done_by hands ≡ done_count gatherer.seen
     done_as_many = sum_over (λ (h : SheetHolding). (own h).done) (λ (a : HandAccount). a.done) hands gatherer.seen.accounts same_length (λ k h e. (as_reported k h e).0)
 
     failed_as_many : failed_by hands ≡ failed_count gatherer.seen
     failed_as_many = sum_over (λ (h : SheetHolding). (own h).failed) (λ (a : HandAccount). a.failed) hands gatherer.seen.accounts same_length (λ k h e. (as_reported k h e).1)
+
+    unkept_as_many : unkept_by hands ≡ unkept_count gatherer.seen
+    unkept_as_many = sum_over (λ (h : SheetHolding). (own h).unkept) (λ (a : HandAccount). a.unkept) hands gatherer.seen.accounts same_length (λ k h e. (as_reported k h e).2)
 
     settled_at : (k : ℕ) (h : SheetHolding) → slice_get hands k ≡ Some h → ((account gatherer.seen k).end ≢ Open) × ((account gatherer.seen k).done + (account gatherer.seen k).failed ≡ length (account gatherer.seen k).claimed)
     settled_at k h e =
@@ -86,11 +91,12 @@ module _ (gatherer : SheetHolding) (hands : List SheetHolding) (sound : IsSound 
         let all = reported k h e in
         (λ still. g.2 (sym (l.ended g.2).1 ∙ still), omega arith)
 
-    pub sees_end : HasEnded gatherer.sheet.hands gatherer.seen (done_by hands) (failed_by hands)
+    pub sees_end : HasEnded gatherer.sheet.hands gatherer.seen (done_by hands) (failed_by hands) (unkept_by hands)
     sees_end = record {
       settled = λ k below. let c = gathered.count in settled_at k (get_or hands k gatherer) (get_at hands k gatherer (omega arith));
       done_is = done_as_many;
       failed_is = failed_as_many;
+      unkept_is = unkept_as_many;
     }
 
 -- NO PLACE IN COMMON

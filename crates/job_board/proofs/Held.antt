@@ -14,12 +14,12 @@ use Rattle.job_board.specs.declared.standing.SheetStanding.{SheetStanding}
 use Rattle.job_board.specs.declared.view.SeatView.{SeatView}
 use Rattle.job_board.specs.Standings.{HasCause, IsSound, account, claimed_count, ending, fresh, gaining, times, vain, vain_count}
 use Rattle.job_board.specs.Hands.{AreReports, MayReport, SheetHolding, change_own, own_of}
-use Rattle.job_board.specs.SheetCalls.{Cancels, Claims, MayFind, MeetsNone, ReportsDone, ReportsFailed, one_done, one_failed, seeing}
+use Rattle.job_board.specs.SheetCalls.{Cancels, Claims, MayFind, MeetsNone, ReportsDone, ReportsFailed, ReportsUnkept, one_done, one_failed, one_unkept, seeing}
 use Rattle.job_board.specs.Views.{claim_word, mark_of, seeing_now}
 use Rattle.job_board.specs.Steps.{CancelledBy, ClaimedBy, HasSeatNumber, HasUnreported, Leaves, Meets, ReportedBy, claiming}
 use Rattle.job_board.specs.Seats.{IsHand, holding_of}
 use Rattle.job_board.proofs.Accounts.{account_here, one_of_sum}
-use Rattle.job_board.proofs.Counting.{reports_after_done, reports_after_failed, some_unreported, times_push, times_some}
+use Rattle.job_board.proofs.Counting.{reports_after_done, reports_after_failed, reports_after_unkept, some_unreported, times_push, times_some}
 
 -- THE OWN ACCOUNT
 
@@ -259,6 +259,9 @@ module _ {S : Type 0} where
     pub done_still : ReportedBy one_done seat.me seat'.me → IsHand seat'.me (done ++ place ∷ []) failed
     done_still = reports_by one_done (done ++ place ∷ []) failed (λ a r e. reports_after_done a done failed r place (subst (λ (b : HandAccount). Contains b.claimed place) (sym e) may.claimed) may.not_done may.not_failed)
 
+    pub unkept_still : ReportedBy one_unkept seat.me seat'.me → IsHand seat'.me (done ++ place ∷ []) failed
+    unkept_still = reports_by one_unkept (done ++ place ∷ []) failed (λ a r e. reports_after_unkept a done failed r place (subst (λ (b : HandAccount). Contains b.claimed place) (sym e) may.claimed) may.not_done may.not_failed)
+
     pub failed_still : ReportedBy one_failed seat.me seat'.me → IsHand seat'.me done (failed ++ place ∷ [])
     failed_still = reports_by one_failed done (failed ++ place ∷ []) (λ a r e. reports_after_failed a done failed r place (subst (λ (b : HandAccount). Contains b.claimed place) (sym e) may.claimed) may.not_done may.not_failed)
 
@@ -269,6 +272,15 @@ module _ {S : Type 0} where
       is = shows seat seat' done failed (done ++ place ∷ []) failed (change_own seat.me.0.number one_done told.0) same told.1.is;
       own_is = own_left seat.me seat'.me done failed told.0 one_done hand number told.1;
       sound = sound_after seat.me seat'.me told.0 (change_own seat.me.0.number one_done told.0) told.1;
+    }
+
+    pub reports_unkept_of : (told : ReportedBy one_unkept seat.me seat'.me) → ReportsUnkept (holding_of seat done failed) (holding_of seat' (done ++ place ∷ []) failed) place
+    reports_unkept_of told = record {
+      found = told.0;
+      finds = may_find seat done failed told.0 told.1.meets;
+      is = shows seat seat' done failed (done ++ place ∷ []) failed (change_own seat.me.0.number one_unkept told.0) same told.1.is;
+      own_is = own_left seat.me seat'.me done failed told.0 one_unkept hand number told.1;
+      sound = sound_after seat.me seat'.me told.0 (change_own seat.me.0.number one_unkept told.0) told.1;
     }
 
     pub reports_failed_of : (told : ReportedBy one_failed seat.me seat'.me) → ReportsFailed (holding_of seat done failed) (holding_of seat' done (failed ++ place ∷ [])) place

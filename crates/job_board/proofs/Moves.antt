@@ -10,13 +10,13 @@ use Rattle.job_board.specs.declared.view.SheetSize.{SheetSize}
 use Rattle.job_board.specs.declared.view.SeatView.{SeatView}
 use Rattle.job_board.specs.Standings.{HasCause, IsSound, Later, LaterAccount, account, claimed_count, done_count, ending, failed_count, gaining, vain, vain_count, with_account}
 use Rattle.job_board.specs.Hands.{change_own, own_of}
-use Rattle.job_board.specs.SheetCalls.{one_done, one_failed}
-use Rattle.job_board.specs.Views.{Owns, claim_word, hearing, words_of}
+use Rattle.job_board.specs.SheetCalls.{one_done, one_failed, one_unkept}
+use Rattle.job_board.specs.Views.{Owns, claim_word, done_word, hearing, words_of}
 use Rattle.job_board.specs.Rule.{Kept}
 use Rattle.job_board.specs.Steps.{CancelledBy, ClaimedBy, HasSeatNumber, HasUnreported, HeardBy, ReadBy, ReportedBy, claiming}
-use Rattle.job_board.proofs.Accounts.{account_else, later_done, later_ending, later_failed, later_gaining, later_with, same_account, same_standing, sum_same, sum_with}
-use Rattle.job_board.proofs.Sound.{cancels_soundly, count_gained, ends_soundly, gains_soundly, reports_done_soundly, reports_failed_soundly}
-use Rattle.job_board.proofs.Words.{count_small, done_within, failed_within, marked, one_more_fits}
+use Rattle.job_board.proofs.Accounts.{account_else, later_done, later_ending, later_failed, later_gaining, later_unkept, later_with, same_account, same_standing, sum_same, sum_with}
+use Rattle.job_board.proofs.Sound.{cancels_soundly, count_gained, ends_soundly, gains_soundly, reports_done_soundly, reports_failed_soundly, reports_unkept_soundly}
+use Rattle.job_board.proofs.Words.{count_small, failed_within, marked, one_done_fits, one_more_fits, one_unkept_fits}
 use Rattle.job_board.proofs.Rules.{Knows, allows}
 
 pub of_number : (o : Option ℕ) (k : ℕ) → o ≡ Some k → (s : SheetStanding) → own_of o s ≡ account s k
@@ -59,12 +59,12 @@ module _ (v : SeatView) (now : SheetStanding) (sound : IsSound v.places v.hands 
     not_yet = ap vain is_open
 
     -- a claim word that counts one more claim
-    words_after : (a : HandAccount) → a.done ≡ (account now k).done → a.failed ≡ (account now k).failed
+    words_after : (a : HandAccount) → a.done ≡ (account now k).done → a.unkept ≡ (account now k).unkept → a.failed ≡ (account now k).failed
         → claimed_count (with_account k a now) + vain_count (with_account k a now) ≡ claimed_count now + vain_count now + 1
         → set (words_of now) 0 (counted (claim_word now)) ≡ words_of (with_account k a now)
-    words_after a d f c = three (counted (claim_word now)) (done_count now) (failed_count now) (claim_word (with_account k a now)) (done_count (with_account k a now)) (failed_count (with_account k a now))
+    words_after a d u f c = three (counted (claim_word now)) (done_word now) (failed_count now) (claim_word (with_account k a now)) (done_word (with_account k a now)) (failed_count (with_account k a now))
         (one_more ∙ omega arith)
-        (sym (sum_same (λ (b : HandAccount). b.done) now k a inside d))
+        (let x = sum_same (λ (b : HandAccount). b.done) now k a inside d in let y = sum_same (λ (b : HandAccount). b.unkept) now k a inside u in omega arith)
         (sym (sum_same (λ (b : HandAccount). b.failed) now k a inside f))
 
     ends : (end : HandEnd) → HasCause v.places now end → vain end ≡ 1 → Possible v now 0 counted (with_account k (ending end (account now k)) now)
@@ -73,14 +73,14 @@ module _ (v : SeatView) (now : SheetStanding) (sound : IsSound v.places v.hands 
         let u = sum_same (λ (b : HandAccount). length b.claimed) now k (ending end (account now k)) inside refl in
         let z = not_yet in
         changes (ending end (account now k)) 0 counted (ends_soundly v.places v.hands now sound k h end cause) (later_ending end (account now k) is_open)
-        (words_after (ending end (account now k)) refl refl (omega arith))
+        (words_after (ending end (account now k)) refl refl refl (omega arith))
 
     gains : claimed_count now < v.places → Possible v now 0 counted (with_account k (gaining (claimed_count now) (account now k)) now)
     gains room =
         let t = count_gained v.places v.hands now sound k h room in
         let u = sum_same (λ (b : HandAccount). vain b.end) now k (gaining (claimed_count now) (account now k)) inside refl in
         changes (gaining (claimed_count now) (account now k)) 0 counted (gains_soundly v.places v.hands now sound k h room) (later_gaining (claimed_count now) (account now k) is_open)
-        (words_after (gaining (claimed_count now) (account now k)) refl refl (omega arith))
+        (words_after (gaining (claimed_count now) (account now k)) refl refl refl (omega arith))
 
     claims_by : (b c : Bool) → now.cancelled ≡ b → nat_lt (claimed_count now) v.places ≡ c
         → Possible v now 0 counted (with_account k (if b then ending Cancelled (account now k) else if c then gaining (claimed_count now) (account now k) else ending AllClaimed (account now k)) now)
@@ -97,13 +97,24 @@ module _ (v : SeatView) (now : SheetStanding) (sound : IsSound v.places v.hands 
     reports_done =
         let a = one_done (account now k) in
         let t = sum_with (λ (b : HandAccount). b.done) now k a inside in
-        let w = sound.within in
-        let d = done_within v.places v.hands now sound in
-        let one : (done_count now + 1) % 2 ^ 64 ≡ done_count now + 1 = mod-eq_of_lt (omega arith) in
+        let u = sum_with (λ (b : HandAccount). b.unkept) now k a inside in
+        let one = one_done_fits v.places v.hands now sound few in
         let c = sum_same (λ (b : HandAccount). length b.claimed) now k a inside refl in
         let e = sum_same (λ (b : HandAccount). vain b.end) now k a inside refl in
         changes a 1 (λ n. (n + 1) % 2 ^ 64) (reports_done_soundly v.places v.hands now sound k h some_left) (later_done (account now k))
-        (three (claim_word now) ((done_count now + 1) % 2 ^ 64) (failed_count now) (claim_word (with_account k a now)) (done_count (with_account k a now)) (failed_count (with_account k a now))
+        (three (claim_word now) ((done_word now + 1) % 2 ^ 64) (failed_count now) (claim_word (with_account k a now)) (done_word (with_account k a now)) (failed_count (with_account k a now))
+        (omega arith) (omega arith) (sym (sum_same (λ (b : HandAccount). b.failed) now k a inside refl)))
+
+    pub reports_unkept : Possible v now 1 (λ n. (n + 4294967297) % 2 ^ 64) (with_account k (one_unkept (account now k)) now)
+    reports_unkept =
+        let a = one_unkept (account now k) in
+        let t = sum_with (λ (b : HandAccount). b.done) now k a inside in
+        let u = sum_with (λ (b : HandAccount). b.unkept) now k a inside in
+        let one = one_unkept_fits v.places v.hands now sound few in
+        let c = sum_same (λ (b : HandAccount). length b.claimed) now k a inside refl in
+        let e = sum_same (λ (b : HandAccount). vain b.end) now k a inside refl in
+        changes a 1 (λ n. (n + 4294967297) % 2 ^ 64) (reports_unkept_soundly v.places v.hands now sound k h some_left) (later_unkept (account now k))
+        (three (claim_word now) ((done_word now + 4294967297) % 2 ^ 64) (failed_count now) (claim_word (with_account k a now)) (done_word (with_account k a now)) (failed_count (with_account k a now))
         (omega arith) (omega arith) (sym (sum_same (λ (b : HandAccount). b.failed) now k a inside refl)))
 
     pub reports_failed : Possible v now 2 (λ n. (n + 1) % 2 ^ 64) (with_account k (one_failed (account now k)) now)
@@ -116,8 +127,8 @@ module _ (v : SeatView) (now : SheetStanding) (sound : IsSound v.places v.hands 
         let c = sum_same (λ (b : HandAccount). length b.claimed) now k a inside refl in
         let e = sum_same (λ (b : HandAccount). vain b.end) now k a inside refl in
         changes a 2 (λ n. (n + 1) % 2 ^ 64) (reports_failed_soundly v.places v.hands now sound k h some_left) (later_failed (account now k))
-        (three (claim_word now) (done_count now) ((failed_count now + 1) % 2 ^ 64) (claim_word (with_account k a now)) (done_count (with_account k a now)) (failed_count (with_account k a now))
-        (omega arith) (sym (sum_same (λ (b : HandAccount). b.done) now k a inside refl)) (omega arith))
+        (three (claim_word now) (done_word now) ((failed_count now + 1) % 2 ^ 64) (claim_word (with_account k a now)) (done_word (with_account k a now)) (failed_count (with_account k a now))
+        (omega arith) (let x = sum_same (λ (b : HandAccount). b.done) now k a inside refl in let y = sum_same (λ (b : HandAccount). b.unkept) now k a inside refl in omega arith) (omega arith))
 
 -- the same, by the number that the view has
 by_number : (v : SeatView) (now : SheetStanding) (k : ℕ) → v.number ≡ Some k → (g : HandAccount → HandAccount) (i : ℕ) (f : ℕ → ℕ) → Possible v now i f (with_account k (g (account now k)) now) → Possible v now i f (change_own v.number g now)
@@ -162,6 +173,20 @@ module _ {S : Type 0} (size : SheetSize) (few : size.places ≤ 10000000) (some_
         tells = (now, record { meets = m; sound = p.sound; is = refl });
       })
 
+  pub reports_unkept_as : HasSeatNumber me.0 → HasUnreported me.0 → Allows (Kept size) slots id me 1 (λ n. (n + 4294967297) % 2 ^ 64) (λ _ after. ReportedBy one_unkept me after)
+  reports_unkept_as n unreported = allows size slots id me 1 (λ n. (n + 4294967297) % 2 ^ 64) (λ _ after. ReportedBy one_unkept me after) live (λ now knows.
+      let m = knows.meets in
+      let p = by_number me.0 now n.0 n.1 one_unkept 1 (λ n. (n + 4294967297) % 2 ^ 64)
+      (reports_unkept me.0 now m.sound n.0 n.1 (knows.owns n.0 (inl n.1)).0 (few_places now knows) (subst (λ (a : HandAccount). a.done + a.failed < length a.claimed) (sym (own_now now knows n)) unreported)) in
+      record {
+        left = change_own me.0.number one_unkept now;
+        sound = p.sound;
+        later = p.later;
+        others = p.others;
+        words = p.words;
+        tells = (now, record { meets = m; sound = p.sound; is = refl });
+      })
+
   pub reports_failed_as : HasSeatNumber me.0 → HasUnreported me.0 → Allows (Kept size) slots id me 2 (λ n. (n + 1) % 2 ^ 64) (λ _ after. ReportedBy one_failed me after)
   reports_failed_as n unreported = allows size slots id me 2 (λ n. (n + 1) % 2 ^ 64) (λ _ after. ReportedBy one_failed me after) live (λ now knows.
       let m = knows.meets in
@@ -187,7 +212,7 @@ module _ {S : Type 0} (size : SheetSize) (few : size.places ≤ 10000000) (some_
         sound = sound;
         later = record { accounts = λ j. same_account (account now j); cancelled = λ _. refl };
         others = λ k _. refl;
-        words = three (bit_or (claim_word now) (2 ^ 63)) (done_count now) (failed_count now) (claimed_count now + vain_count now + 2 ^ 63) (done_count now) (failed_count now)
+        words = three (bit_or (claim_word now) (2 ^ 63)) (done_word now) (failed_count now) (claimed_count now + vain_count now + 2 ^ 63) (done_word now) (failed_count now)
             (marked (claimed_count now + vain_count now) now.cancelled (omega arith)) refl refl;
         tells = (now, record { meets = m; sound = sound; is = refl });
       })

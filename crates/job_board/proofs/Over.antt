@@ -4,7 +4,7 @@ use Rattle.std.specs.Prelude.{slice_get}
 use Rattle.std.proofs.lemmas.Option.{same_Some, slice_get_within}
 use mathlib.Core.Logic.{dite}
 use native.Mathlib.Decide.{ℕ_discrete}
-use Rattle.job_board.specs.declared.progress.Progress.{Progress}
+use Rattle.job_board.specs.declared.status.JobStatus.{JobStatus}
 use Rattle.job_board.specs.SheetCalls.{HasEnded, StaysEnded}
 use Rattle.job_board.specs.Hands.{Sheet, SheetHolding}
 use Rattle.job_board.specs.declared.posted.Posted.{Posted}
@@ -14,7 +14,7 @@ use Rattle.job_board.specs.declared.shown.Command.TheVariants as command
 use Rattle.job_board.specs.declared.shown.Reply.{Reply}
 use Rattle.job_board.specs.declared.shown.Reply.TheVariants as reply
 use Rattle.job_board.specs.declared.shown.Shown.{Shown}
-use Rattle.job_board.specs.Boards.{BoardMayReply, Finishes, IsFinished, IsOver, KeepsOver, Looks, Stops, Submits, TakesNext, TellsOfEnd, watch_of, with_watch}
+use Rattle.job_board.specs.Boards.{BoardMayReply, Finishes, IsFinished, IsOver, KeepsOver, Looks, Stops, Submits, TakesNext, TellsNumbers, TellsOfEnd, watch_of, with_watch}
 use Rattle.job_board.proofs.Watches.{is_zero, not_zero}
 
 -- WATCHES
@@ -63,87 +63,87 @@ set_else b m n watch left w ne e e' =
 
 -- WHAT IS OVER STAYS SO
 
-over_same : (b a : Shown) (n done failed : ℕ) → a.watches ≡ b.watches → IsOver b n done failed → IsOver a n done failed
-over_same b a n done failed same o = record { watch = o.watch; of_job = ap (λ (ws : List SheetHolding). if n == 0 then None else slice_get ws (n - 1)) same ∙ o.of_job; ended = o.ended }
+over_same : (b a : Shown) (n done failed unkept : ℕ) → a.watches ≡ b.watches → IsOver b n done failed unkept → IsOver a n done failed unkept
+over_same b a n done failed unkept same o = record { watch = o.watch; of_job = ap (λ (ws : List SheetHolding). if n == 0 then None else slice_get ws (n - 1)) same ∙ o.of_job; ended = o.ended }
 
-over_more : (b a : Shown) (n done failed : ℕ) (w : SheetHolding) → a.watches ≡ b.watches ++ w ∷ [] → IsOver b n done failed → IsOver a n done failed
-over_more b a n done failed w more o =
+over_more : (b a : Shown) (n done failed unkept : ℕ) (w : SheetHolding) → a.watches ≡ b.watches ++ w ∷ [] → IsOver b n done failed unkept → IsOver a n done failed unkept
+over_more b a n done failed unkept w more o =
     let at = watch_at b n o.watch o.of_job in
     record { watch = o.watch; of_job = watch_there a n o.watch at.0 (ap (λ (ws : List SheetHolding). slice_get ws (n - 1)) more ∙ get_more b.watches (n - 1) w o.watch at.1); ended = o.ended }
 
 -- the board with a watch that has seen as much
-over_seen : (b a : Shown) (m n done failed : ℕ) (watch left : SheetHolding) → a ≡ with_watch m left b → watch_of b m ≡ Some watch → left.sheet ≡ watch.sheet → StaysEnded watch.sheet.hands watch.seen left.seen → IsOver b n done failed → IsOver a n done failed
-over_seen b a m n done failed watch left is of_job sheet stays o =
-    subst (λ (x : Shown). IsOver x n done failed) (sym is) (dite (ℕ_discrete m n)
+over_seen : (b a : Shown) (m n done failed unkept : ℕ) (watch left : SheetHolding) → a ≡ with_watch m left b → watch_of b m ≡ Some watch → left.sheet ≡ watch.sheet → StaysEnded watch.sheet.hands watch.seen left.seen → IsOver b n done failed unkept → IsOver a n done failed unkept
+over_seen b a m n done failed unkept watch left is of_job sheet stays o =
+    subst (λ (x : Shown). IsOver x n done failed unkept) (sym is) (dite (ℕ_discrete m n)
     (λ same.
     let here = subst (λ (k : ℕ). watch_of b k ≡ Some watch) same of_job in
     let mine : o.watch ≡ watch = same_Some o.watch watch (sym o.of_job ∙ here) in
-    let was : HasEnded watch.sheet.hands watch.seen done failed = subst (λ (w : SheetHolding). HasEnded w.sheet.hands w.seen done failed) mine o.ended in
+    let was : HasEnded watch.sheet.hands watch.seen done failed unkept = subst (λ (w : SheetHolding). HasEnded w.sheet.hands w.seen done failed unkept) mine o.ended in
     record {
       watch = left;
       of_job = subst (λ (k : ℕ). watch_of (with_watch m left b) k ≡ Some left) same (set_here b m watch left of_job);
-      ended = subst (λ (s : Sheet). HasEnded s.hands left.seen done failed) (sym sheet) (stays done failed was);
+      ended = subst (λ (s : Sheet). HasEnded s.hands left.seen done failed unkept) (sym sheet) (stays done failed unkept was);
     })
     (λ ne. record { watch = o.watch; of_job = set_else b m n watch left o.watch ne of_job o.of_job; ended = o.ended }))
 
-over_other : (b a : Shown) (m n done failed : ℕ) (watch left : SheetHolding) → m ≢ n → a ≡ with_watch m left b → watch_of b m ≡ Some watch → IsOver b n done failed → IsOver a n done failed
-over_other b a m n done failed watch left ne is of_job o =
-    subst (λ (x : Shown). IsOver x n done failed) (sym is) (record { watch = o.watch; of_job = set_else b m n watch left o.watch ne of_job o.of_job; ended = o.ended })
+over_other : (b a : Shown) (m n done failed unkept : ℕ) (watch left : SheetHolding) → m ≢ n → a ≡ with_watch m left b → watch_of b m ≡ Some watch → IsOver b n done failed unkept → IsOver a n done failed unkept
+over_other b a m n done failed unkept watch left ne is of_job o =
+    subst (λ (x : Shown). IsOver x n done failed unkept) (sym is) (record { watch = o.watch; of_job = set_else b m n watch left o.watch ne of_job o.of_job; ended = o.ended })
 
-module _ (b a : Shown) (n done failed : ℕ) (o : IsOver b n done failed) where
-  submit_keeps : (job : _) (places : ℕ) (number : Option ℕ) → Submits b job places number a → IsOver a n done failed
-  submit_keeps job places None row = over_same b a n done failed (ap (λ (x : Shown). x.watches) row.1) o
-  submit_keeps job places (Some k) row = over_more b a n done failed row.3.1 (ap (λ (x : Shown). x.watches) row.3.3) o
+module _ (b a : Shown) (n done failed unkept : ℕ) (o : IsOver b n done failed unkept) where
+  submit_keeps : (job : _) (places : ℕ) (number : Option ℕ) → Submits b job places number a → IsOver a n done failed unkept
+  submit_keeps job places None row = over_same b a n done failed unkept (ap (λ (x : Shown). x.watches) row.1) o
+  submit_keeps job places (Some k) row = over_more b a n done failed unkept row.3.1 (ap (λ (x : Shown). x.watches) row.3.3) o
 
-  next_keeps : (p : Option Posted) → TakesNext b p a → IsOver a n done failed
-  next_keeps None row = over_same b a n done failed (ap (λ (x : Shown). x.watches) row.1) o
-  next_keeps (Some p) row = over_same b a n done failed (sym (ap (λ (x : Shown). x.watches) row.1)) o
+  next_keeps : (p : Option Posted) → TakesNext b p a → IsOver a n done failed unkept
+  next_keeps None row = over_same b a n done failed unkept (ap (λ (x : Shown). x.watches) row.1) o
+  next_keeps (Some p) row = over_same b a n done failed unkept (sym (ap (λ (x : Shown). x.watches) row.1)) o
 
-  look_keeps : (m : ℕ) (p : Option Progress) → Looks b m p a → IsOver a n done failed
-  look_keeps m None row = over_same b a n done failed (ap (λ (x : Shown). x.watches) row.1) o
-  look_keeps m (Some p) row = over_seen b a m n done failed row.watch row.left row.is row.of_job (ap (λ (h : SheetHolding). h.sheet) row.tells.is) row.stays o
+  look_keeps : (m : ℕ) (p : Option JobStatus) → Looks b m p a → IsOver a n done failed unkept
+  look_keeps m None row = over_same b a n done failed unkept (ap (λ (x : Shown). x.watches) row.1) o
+  look_keeps m (Some p) row = over_seen b a m n done failed unkept row.watch row.left row.is row.of_job (ap (λ (h : SheetHolding). h.sheet) row.tells.is) row.stays o
 
-  stop_keeps : (m : ℕ) (is : Bool) → Stops b m is a → IsOver a n done failed
-  stop_keeps m false row = over_same b a n done failed (ap (λ (x : Shown). x.watches) row.1) o
-  stop_keeps m true row = over_seen b a m n done failed row.watch row.left row.is row.of_job (ap (λ (h : SheetHolding). h.sheet) row.cancels.is) row.stays o
+  stop_keeps : (m : ℕ) (is : Bool) → Stops b m is a → IsOver a n done failed unkept
+  stop_keeps m false row = over_same b a n done failed unkept (ap (λ (x : Shown). x.watches) row.1) o
+  stop_keeps m true row = over_seen b a m n done failed unkept row.watch row.left row.is row.of_job (ap (λ (h : SheetHolding). h.sheet) row.cancels.is) row.stays o
 
-  finish_keeps : (m : ℕ) (ended : SheetHolding) (is : Bool) → m ≢ n → Finishes b m ended is a → IsOver a n done failed
-  finish_keeps m ended false ne row = over_same b a n done failed (ap (λ (x : Shown). x.watches) row.1) o
-  finish_keeps m ended true ne row = over_other b a m n done failed row.watch row.left ne row.is row.of_job o
+  finish_keeps : (m : ℕ) (ended : SheetHolding) (is : Bool) → m ≢ n → Finishes b m ended is a → IsOver a n done failed unkept
+  finish_keeps m ended false ne row = over_same b a n done failed unkept (ap (λ (x : Shown). x.watches) row.1) o
+  finish_keeps m ended true ne row = over_same (with_watch m row.left b) a n done failed unkept (ap (λ (x : Shown). x.watches) row.is) (over_other b (with_watch m row.left b) m n done failed unkept row.watch row.left ne refl row.of_job o)
 
-  stays_over : (does : Command) (r : Reply) → BoardMayReply b does r a → ¬ (TellsOfEnd n does) → IsOver a n done failed
+  stays_over : (does : Command) (r : Reply) → BoardMayReply b does r a → ¬ (TellsOfEnd n does) → IsOver a n done failed unkept
   stays_over (command.Submit job places) r may no_end = submit_keeps job places may.0 may.2
   stays_over command.Next r may no_end = next_keeps may.0 may.2
   stays_over (command.Look m) r may no_end = look_keeps m may.0 may.2
   stays_over (command.Stop m) r may no_end = stop_keeps m may.0 may.2
   stays_over (command.Finish m job) r may no_end = finish_keeps m job.watch may.0 no_end may.2
 
-same_look : (x y : Option Progress) → reply.Look x ≡ reply.Look y → y ≡ x
+same_look : (x y : Option JobStatus) → reply.Look x ≡ reply.Look y → y ≡ x
 same_look x y e = cc
 
 same_finish : (x y : Bool) → reply.Finish x ≡ reply.Finish y → y ≡ x
 same_finish x y e = cc
 
-tells_over : (b a : Shown) (n done failed : ℕ) (p : Progress) (does : Command) (r : Reply) → BoardMayReply b does r a → IsOver b n done failed → does ≡ command.Look n → r ≡ reply.Look (Some p) → (p.done ≡ done) × (p.failed ≡ failed)
-tells_over b a n done failed p does r may o is so =
+tells_over : (b a : Shown) (n done failed unkept : ℕ) (p : JobStatus) (does : Command) (r : Reply) → BoardMayReply b does r a → IsOver b n done failed unkept → does ≡ command.Look n → r ≡ reply.Look (Some p) → TellsNumbers p done failed unkept
+tells_over b a n done failed unkept p does r may o is so =
     let h : BoardMayReply b (command.Look n) (reply.Look (Some p)) a = subst (λ (z : Reply). BoardMayReply b (command.Look n) z a) so (subst (λ (d : Command). BoardMayReply b d r a) is may) in
-    let row : Looks b n (Some p) a = subst (λ (x : Option Progress). Looks b n x a) (same_look (Some p) h.0 h.1) h.2 in
+    let row : Looks b n (Some p) a = subst (λ (x : Option JobStatus). Looks b n x a) (same_look (Some p) h.0 h.1) h.2 in
     let mine : o.watch ≡ row.watch = same_Some o.watch row.watch (sym o.of_job ∙ row.of_job) in
-    row.settled done failed (subst (λ (w : SheetHolding). HasEnded w.sheet.hands w.seen done failed) mine o.ended)
+    row.settled done failed unkept (subst (λ (w : SheetHolding). HasEnded w.sheet.hands w.seen done failed unkept) mine o.ended)
 
-ends_over : (b a : Shown) (n done failed : ℕ) (job : WatchedJob) (does : Command) (r : Reply) → BoardMayReply b does r a → does ≡ command.Finish n job → r ≡ reply.Finish true → HasEnded job.watch.sheet.hands job.watch.seen done failed → IsOver a n done failed
-ends_over b a n done failed job does r may is so ended =
+ends_over : (b a : Shown) (n done failed unkept : ℕ) (job : WatchedJob) (does : Command) (r : Reply) → BoardMayReply b does r a → does ≡ command.Finish n job → r ≡ reply.Finish true → HasEnded job.watch.sheet.hands job.watch.seen done failed unkept → IsOver a n done failed unkept
+ends_over b a n done failed unkept job does r may is so ended =
     let h : BoardMayReply b (command.Finish n job) (reply.Finish true) a = subst (λ (z : Reply). BoardMayReply b (command.Finish n job) z a) so (subst (λ (d : Command). BoardMayReply b d r a) is may) in
     let row : IsFinished b n job.watch a = subst (λ (x : Bool). Finishes b n job.watch x a) (same_finish true h.0 h.1) h.2 in
-    subst (λ (x : Shown). IsOver x n done failed) (sym row.is) (record {
+    subst (λ (x : Shown). IsOver x n done failed unkept) (sym row.is) (record {
       watch = row.left;
       of_job = set_here b n row.watch row.left row.of_job;
-      ended = subst (λ (s : Sheet). HasEnded s.hands row.left.seen done failed) (sym row.takes.same_sheet) (row.takes.ends done failed ended);
+      ended = subst (λ (s : Sheet). HasEnded s.hands row.left.seen done failed unkept) (sym row.takes.same_sheet) (row.takes.ends done failed unkept ended);
     })
 
 pub keeps_over : (b a : Shown) (does : Command) (r : Reply) → BoardMayReply b does r a → KeepsOver b does r a
 keeps_over b a does r may = record {
-  stays = λ n done failed o no_end. stays_over b a n done failed o does r may no_end;
-  tells = λ n done failed p o is so. tells_over b a n done failed p does r may o is so;
-  ends = λ n done failed job is so ended. ends_over b a n done failed job does r may is so ended;
+  stays = λ n done failed unkept o no_end. stays_over b a n done failed unkept o does r may no_end;
+  tells = λ n done failed unkept p o is so. tells_over b a n done failed unkept p does r may o is so;
+  ends = λ n done failed unkept job is so ended. ends_over b a n done failed unkept job does r may is so ended;
 }

@@ -10,7 +10,7 @@ use Rattle.job_board.specs.declared.standing.HandEnd.TheVariants.{AllClaimed, Ca
 use Rattle.job_board.specs.declared.standing.SheetStanding.{SheetStanding}
 use Rattle.job_board.specs.Standings.{HasCause, IsSound, account, claimed_count, claims_of, ending, fresh, gaining, times, with_account}
 use Rattle.job_board.specs.Hands.{fresh_standing}
-use Rattle.job_board.specs.SheetCalls.{one_done, one_failed}
+use Rattle.job_board.specs.SheetCalls.{one_done, one_failed, one_unkept}
 use Rattle.job_board.proofs.Counting.{at_another, at_itself, one_at, times_push}
 use Rattle.job_board.proofs.Accounts.{each_account, fresh_at, sum_same, sum_with}
 
@@ -64,18 +64,20 @@ module _ (places hands : ℕ) (s : SheetStanding) (sound : IsSound places hands 
       cause = each_account (λ _ a. HasCause places gained a.end) s k (gaining next (account s k)) inside (cause_gained (account s k).end (sound.cause k)) (λ j. cause_gained (account s j).end (sound.cause j));
       reported = each_account (λ _ a. a.done + a.failed ≤ length a.claimed) s k (gaining next (account s k)) inside
           (let r = sound.reported k in let l = length-append (account s k).claimed (next ∷ []) in omega arith) sound.reported;
+      unkept = each_account (λ _ a. a.unkept ≤ a.done) s k (gaining next (account s k)) inside (sound.unkept k) sound.unkept;
     }
 
   -- AN ACCOUNT CHANGES BUT ITS CLAIMS DON'T
 
-  pub soundly_with : (a : HandAccount) → a.claimed ≡ (account s k).claimed → HasCause places s a.end → a.done + a.failed ≤ length a.claimed → IsSound places hands (with_account k a s)
-  soundly_with a same cause reported = record {
+  pub soundly_with : (a : HandAccount) → a.claimed ≡ (account s k).claimed → HasCause places s a.end → a.done + a.failed ≤ length a.claimed → a.unkept ≤ a.done → IsSound places hands (with_account k a s)
+  soundly_with a same cause reported unkept = record {
     all = length-set s.accounts k a ∙ sound.all;
     within = let c = count in let w = sound.within in omega arith;
     once = λ place lt. let t = claims place in let c = count in let o = sound.once place (omega arith) in omega arith;
     none_else = λ place le. let t = claims place in let c = count in let o = sound.none_else place (omega arith) in omega arith;
     cause = each_account (λ _ b. HasCause places (with_account k a s) b.end) s k a inside (cause_with a.end cause) (λ j. cause_with (account s j).end (sound.cause j));
     reported = each_account (λ _ b. b.done + b.failed ≤ length b.claimed) s k a inside reported sound.reported;
+    unkept = each_account (λ _ b. b.unkept ≤ b.done) s k a inside unkept sound.unkept;
   }
     where
       count : claimed_count (with_account k a s) ≡ claimed_count s
@@ -90,13 +92,16 @@ module _ (places hands : ℕ) (s : SheetStanding) (sound : IsSound places hands 
       cause_with Cancelled c = c
 
   pub ends_soundly : (end : HandEnd) → HasCause places s end → IsSound places hands (with_account k (ending end (account s k)) s)
-  ends_soundly end cause = soundly_with (ending end (account s k)) refl cause (sound.reported k)
+  ends_soundly end cause = soundly_with (ending end (account s k)) refl cause (sound.reported k) (sound.unkept k)
 
   pub reports_done_soundly : (account s k).done + (account s k).failed < length (account s k).claimed → IsSound places hands (with_account k (one_done (account s k)) s)
-  reports_done_soundly left = soundly_with (one_done (account s k)) refl (sound.cause k) (omega arith)
+  reports_done_soundly left = soundly_with (one_done (account s k)) refl (sound.cause k) (omega arith) (let u = sound.unkept k in omega arith)
+
+  pub reports_unkept_soundly : (account s k).done + (account s k).failed < length (account s k).claimed → IsSound places hands (with_account k (one_unkept (account s k)) s)
+  reports_unkept_soundly left = soundly_with (one_unkept (account s k)) refl (sound.cause k) (omega arith) (let u = sound.unkept k in omega arith)
 
   pub reports_failed_soundly : (account s k).done + (account s k).failed < length (account s k).claimed → IsSound places hands (with_account k (one_failed (account s k)) s)
-  reports_failed_soundly left = soundly_with (one_failed (account s k)) refl (sound.cause k) (omega arith)
+  reports_failed_soundly left = soundly_with (one_failed (account s k)) refl (sound.cause k) (omega arith) (sound.unkept k)
 
 -- CANCELLING
 
@@ -108,6 +113,7 @@ cancels_soundly places hands s sound = record {
   none_else = sound.none_else;
   cause = λ j. cause_after (account s j).end (sound.cause j);
   reported = sound.reported;
+  unkept = sound.unkept;
 }
   where
     cause_after : (end : HandEnd) → HasCause places s end → HasCause places (record s { cancelled = true }) end
@@ -129,4 +135,5 @@ nothing_sound places hands = record {
   none_else = λ place le. no_sum hands (λ (a : HandAccount). times place a.claimed) refl;
   cause = λ j. subst (λ (a : HandAccount). HasCause places (fresh_standing hands) a.end) (sym (fresh_at hands j)) tt;
   reported = λ j. subst (λ (a : HandAccount). a.done + a.failed ≤ length a.claimed) (sym (fresh_at hands j)) (omega arith);
+  unkept = λ j. subst (λ (a : HandAccount). a.unkept ≤ a.done) (sym (fresh_at hands j)) (omega arith);
 }

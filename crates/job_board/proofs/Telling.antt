@@ -1,5 +1,5 @@
 -- What progress tells, and what hands that were gathered know.
-use Rattle.std.proofs.Common.{◌≡◌, ◌∙◌, ℕ, suc, ◌+◌, ◌%◌, ◌^◌, ◌<◌, ◌≤◌, min, leb, le→leb, leb→le, Bool, true, false, List, [], ◌∷◌, ◌++◌, get_or, length, sum_by, sym, refl, ap, subst, arith, length-append}
+use Rattle.std.proofs.Common.{◌≡◌, ◌∙◌, ℕ, suc, ◌+◌, ◌*◌, ◌/◌, ◌%◌, ◌^◌, ◌<◌, ◌≤◌, min, leb, le→leb, leb→le, Bool, true, false, List, [], ◌∷◌, ◌++◌, get_or, length, sum_by, sym, refl, ap, subst, arith, length-append}
 use Rattle.std.proofs.lemmas.List.Sums.{sum_by-cons}
 use mathlib.Core.Logic.{dite}
 use native.Mathlib.Decide.{dec_lt}
@@ -9,14 +9,14 @@ use Rattle.job_board.specs.declared.progress.Progress.{Progress}
 use Rattle.job_board.specs.declared.standing.HandAccount.{HandAccount}
 use Rattle.job_board.specs.declared.standing.SheetStanding.{SheetStanding}
 use Rattle.job_board.specs.declared.view.SeatView.{SeatView}
-use Rattle.job_board.specs.Standings.{IsSound, Later, account, claimed_count, done_count, failed_count, fresh, vain_count}
+use Rattle.job_board.specs.Standings.{IsSound, Later, account, claimed_count, done_count, failed_count, fresh, unkept_count, vain_count}
 use Rattle.job_board.specs.Hands.{AreReports, SheetHolding, own_of}
 use Rattle.job_board.specs.SheetCalls.{AddsUp, Cancels, Gathers, HasEnded, IsFinal, IsSettled, MayFind, StaysEnded, Tells, seeing}
-use Rattle.job_board.specs.Views.{claim_word, mark_of, seeing_now}
+use Rattle.job_board.specs.Views.{claim_word, done_word, mark_of, seeing_now}
 use Rattle.job_board.specs.Steps.{HeardBy, ReadBy}
 use Rattle.job_board.specs.Seats.{IsHand, holding_of}
 use Rattle.job_board.proofs.Accounts.{later_than}
-use Rattle.job_board.proofs.Words.{count_small, reported_within, vain_few}
+use Rattle.job_board.proofs.Words.{count_small, done_within, reported_within, unkept_within, vain_few}
 use Rattle.job_board.proofs.Held.{no_true, no_vain, yes_true}
 
 -- SUMS OVER TWO STANDINGS
@@ -48,6 +48,9 @@ module _ (places hands : ℕ) (a b : SheetStanding) (as_many : length a.accounts
   pub more_done : done_count a ≤ done_count b
   more_done = sum_within (λ (x : HandAccount). x.done) (λ (x : HandAccount). x.done) a.accounts b.accounts lengths (λ k lt. let l = later.accounts k in l.done)
 
+  pub more_unkept : unkept_count a ≤ unkept_count b
+  more_unkept = sum_within (λ (x : HandAccount). x.unkept) (λ (x : HandAccount). x.unkept) a.accounts b.accounts lengths (λ k lt. let l = later.accounts k in l.unkept)
+
   pub more_failed : failed_count a ≤ failed_count b
   more_failed = sum_within (λ (x : HandAccount). x.failed) (λ (x : HandAccount). x.failed) a.accounts b.accounts lengths (λ k lt. let l = later.accounts k in l.failed)
 
@@ -57,7 +60,7 @@ module _ (places hands : ℕ) (a b : SheetStanding) (as_many : length a.accounts
 
   -- where each hand of a has met None and reported all, nothing changes any more
   module _ (settled : IsSettled hands a) where
-    no_more : (k : ℕ) → k < hands → ((account b k).done ≤ (account a k).done) × ((account b k).failed ≤ (account a k).failed)
+    no_more : (k : ℕ) → k < hands → ((account b k).done ≤ (account a k).done) × ((account b k).failed ≤ (account a k).failed) × ((account b k).unkept ≤ (account a k).unkept)
     no_more k lt =
         let l = later.accounts k in
         let s = settled k lt in
@@ -66,7 +69,8 @@ module _ (places hands : ℕ) (a b : SheetStanding) (as_many : length a.accounts
         let d = l.done in
         let f = l.failed in
         let all = s.1 in
-        (omega arith, omega arith)
+        let u = l.unkept_done in
+        (omega arith, omega arith, omega arith)
 
     pub as_done : done_count b ≡ done_count a
     as_done =
@@ -78,6 +82,12 @@ module _ (places hands : ℕ) (a b : SheetStanding) (as_many : length a.accounts
     as_failed =
         let up = more_failed in
         let down = sum_within (λ (x : HandAccount). x.failed) (λ (x : HandAccount). x.failed) b.accounts a.accounts (sym lengths) (λ k lt. let s = sound.all in (no_more k (omega arith)).1) in
+        omega arith
+
+    pub as_unkept : unkept_count b ≡ unkept_count a
+    as_unkept =
+        let up = more_unkept in
+        let down = sum_within (λ (x : HandAccount). x.unkept) (λ (x : HandAccount). x.unkept) b.accounts a.accounts (sym lengths) (λ k lt. let s = sound.all in (no_more k (omega arith)).2) in
         omega arith
 
     -- b is settled, too
@@ -101,12 +111,13 @@ module _ (places hands : ℕ) (a b : SheetStanding) (as_many : length a.accounts
         omega arith
 
   pub ended_still : StaysEnded hands a b
-  ended_still d f e =
+  ended_still d f u e =
       let settled = e.settled in
       record {
         settled = stays_settled settled;
         done_is = e.done_is ∙ sym (as_done settled);
         failed_is = e.failed_is ∙ sym (as_failed settled);
+        unkept_is = e.unkept_is ∙ sym (as_unkept settled);
       }
 
 -- a cancel changes no account
@@ -131,7 +142,7 @@ pub record Looks (before after : SheetHolding) (d f word : ℕ) : Type 0 where
   pub then_sees : MayFind (seeing before second) after.seen
   pub is : after ≡ seeing before after.seen
   pub own_is : own_of after.number after.seen ≡ own_of before.number before.seen
-  pub done_is : d ≡ done_count first
+  pub done_is : d ≡ done_word first
   pub failed_is : f ≡ failed_count second
   pub word_is : word ≡ claim_word after.seen
 
@@ -144,12 +155,21 @@ mark_apart : (n : ℕ) (b : Bool) → n < 2 ^ 63 → leb (2 ^ 63) (n + mark_of b
 mark_apart n true small = yes_true (leb (2 ^ 63) (n + mark_of true)) (le→leb (2 ^ 63) (n + mark_of true) (omega arith))
 mark_apart n false small = no_true (leb (2 ^ 63) (n + mark_of false)) (λ t. let l = leb→le (2 ^ 63) (n + mark_of false) t in omega arith)
 
+-- the word of the places done apart: how many they are, and how many of them are not kept
+done_apart : (n m : ℕ) → n < 2 ^ 32 → (n + 2 ^ 32 * m) % 2 ^ 32 ≡ n
+done_apart n m small = omega arith
+
+unkept_apart : (n m : ℕ) → n < 2 ^ 32 → (n + 2 ^ 32 * m) / 2 ^ 32 ≡ m
+unkept_apart n m small = omega arith
+
 pub tells : (before after : SheetHolding) (d f word : ℕ) (p : Progress) → before.sheet.places ≤ 10000000 → before.sheet.hands ≤ 63 → Looks before after d f word
-    → p.places ≡ before.sheet.places → p.claimed ≡ min (word % 2 ^ 63) before.sheet.places → p.done ≡ d → p.failed ≡ f → p.cancelled ≡ leb (2 ^ 63) word → Tells before after p
-tells before after d f word p few some_hands l places claimed done failed cancelled =
+    → p.places ≡ before.sheet.places → p.claimed ≡ min (word % 2 ^ 63) before.sheet.places → p.done ≡ d % 2 ^ 32 → p.unkept ≡ d / 2 ^ 32 → p.failed ≡ f → p.cancelled ≡ leb (2 ^ 63) word → Tells before after p
+tells before after d f word p few some_hands l places claimed done unkept failed cancelled =
     let s = l.then_sees.sound in
     let c = count_small before.sheet.places before.sheet.hands after.seen s few some_hands in
     let n = claimed_count after.seen + vain_count after.seen in
+    let at_first = l.finds.sound in
+    let small = done_within before.sheet.places before.sheet.hands l.first at_first in
     record {
       first = l.first;
       second = l.second;
@@ -159,7 +179,8 @@ tells before after d f word p few some_hands l places claimed done failed cancel
       is = l.is;
       own_is = l.own_is;
       places = places;
-      done = done ∙ l.done_is;
+      done = done ∙ (ap (λ (x : ℕ). x % 2 ^ 32) l.done_is ∙ done_apart (done_count l.first) (unkept_count l.first) (omega arith));
+      unkept = unkept ∙ (ap (λ (x : ℕ). x / 2 ^ 32) l.done_is ∙ unkept_apart (done_count l.first) (unkept_count l.first) (omega arith));
       failed = failed ∙ l.failed_is;
       claimed = claimed ∙ ap (λ (x : ℕ). min x before.sheet.places) (ap (λ (x : ℕ). x % 2 ^ 63) l.word_is ∙ count_apart n after.seen.cancelled (omega arith));
       cancelled = cancelled ∙ (ap (leb (2 ^ 63)) l.word_is ∙ mark_apart n after.seen.cancelled (omega arith));
@@ -197,6 +218,9 @@ module _ (before after : SheetHolding) (p : Progress) (as_many : length before.s
       let c0 = more_claimed places hands before.seen after.seen as_many at_third to_third in
       let r = reported_within places hands after.seen at_third in
       let e = t.places in
+      let u = t.unkept in
+      let u0 = more_unkept places hands before.seen t.first as_many at_first t.finds.later in
+      let u1 = unkept_within places hands t.first at_first in
       record {
         reported = omega arith;
         claimed = omega arith;
@@ -208,12 +232,14 @@ module _ (before after : SheetHolding) (p : Progress) (as_many : length before.s
         at_least = (omega arith, omega arith, omega arith);
         at_most = (omega arith, omega arith);
         cancelled = λ e. t.cancelled ∙ to_third.cancelled e;
+        unkept = (omega arith, omega arith);
       }
 
   pub final : IsSettled hands before.seen → IsFinal before.seen p
   final settled = record {
     done = t.done ∙ as_done places hands before.seen t.first as_many t.finds.sound t.finds.later settled;
     failed = t.failed ∙ as_failed places hands before.seen t.second as_many t.then_finds.sound to_second settled;
+    unkept = t.unkept ∙ as_unkept places hands before.seen t.first as_many t.finds.sound t.finds.later settled;
     all =
         let d = as_done places hands before.seen t.first as_many t.finds.sound t.finds.later settled in
         let f = as_failed places hands before.seen t.second as_many t.then_finds.sound to_second settled in
@@ -264,7 +290,7 @@ module _ {S : Type 0} where
 
   -- a hand that took three looks
   module _ (seat one two three : Seat S SeatView) (done failed : List ℕ) (hand : IsHand seat.me done failed) (d f word : ℕ)
-      (first : ReadBy done_count seat.me d one.me) (second : ReadBy failed_count one.me f two.me) (third : ReadBy claim_word two.me word three.me) where
+      (first : ReadBy done_word seat.me d one.me) (second : ReadBy failed_count one.me f two.me) (third : ReadBy claim_word two.me word three.me) where
     after_first : one.me ≡ (seeing_now seat.me.0 first.0, seat.me.1)
     after_first = first.2.is
 

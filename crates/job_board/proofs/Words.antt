@@ -9,8 +9,8 @@ use Rattle.job_board.specs.declared.standing.HandAccount.{HandAccount}
 use Rattle.job_board.specs.declared.standing.HandEnd.{HandEnd}
 use Rattle.job_board.specs.declared.standing.HandEnd.TheVariants.{AllClaimed, Cancelled, Open}
 use Rattle.job_board.specs.declared.standing.SheetStanding.{SheetStanding}
-use Rattle.job_board.specs.Standings.{IsSound, claimed_count, done_count, failed_count, fresh, vain, vain_count}
-use Rattle.job_board.specs.Views.{claim_word, mark_of}
+use Rattle.job_board.specs.Standings.{IsSound, claimed_count, done_count, failed_count, fresh, unkept_count, vain, vain_count}
+use Rattle.job_board.specs.Views.{claim_word, done_word, mark_of}
 
 -- two sums are together within a third one, where each two terms are
 sum_of_two : (f g h : HandAccount → ℕ) (xs : List HandAccount) → ((k : ℕ) → k < length xs → f (get_or xs k fresh) + g (get_or xs k fresh) ≤ h (get_or xs k fresh)) → sum_by f xs + sum_by g xs ≤ sum_by h xs
@@ -20,6 +20,16 @@ sum_of_two f g h (x ∷ xs) each =
     let others = sum_of_two f g h xs (λ k lt. each (suc k) (omega arith)) in
     let a = sum_by-cons f x xs in
     let b = sum_by-cons g x xs in
+    let c = sum_by-cons h x xs in
+    omega arith
+
+-- a sum is within another one, where each term is
+sum_of_one : (f h : HandAccount → ℕ) (xs : List HandAccount) → ((k : ℕ) → k < length xs → f (get_or xs k fresh) ≤ h (get_or xs k fresh)) → sum_by f xs ≤ sum_by h xs
+sum_of_one f h [] each = omega arith
+sum_of_one f h (x ∷ xs) each =
+    let first : f x ≤ h x = each 0 (omega arith) in
+    let others = sum_of_one f h xs (λ k lt. each (suc k) (omega arith)) in
+    let a = sum_by-cons f x xs in
     let c = sum_by-cons h x xs in
     omega arith
 
@@ -76,3 +86,14 @@ module _ (places hands : ℕ) (s : SheetStanding) (sound : IsSound places hands 
 
   pub failed_within : failed_count s ≤ places
   failed_within = let r = reported_within in let w = sound.within in omega arith
+
+  -- and no more are not kept than done
+  pub unkept_within : unkept_count s ≤ done_count s
+  unkept_within = sum_of_one (λ (a : HandAccount). a.unkept) (λ (a : HandAccount). a.done) s.accounts (λ k lt. sound.unkept k)
+
+  -- one more place of either kind keeps the word in its 64 bits
+  pub one_done_fits : places ≤ 10000000 → (done_word s + 1) % 2 ^ 64 ≡ done_word s + 1
+  one_done_fits few = let d = done_within in let u = unkept_within in mod-eq_of_lt (omega arith)
+
+  pub one_unkept_fits : places ≤ 10000000 → (done_word s + 4294967297) % 2 ^ 64 ≡ done_word s + 4294967297
+  one_unkept_fits few = let d = done_within in let u = unkept_within in mod-eq_of_lt (omega arith)

@@ -1,11 +1,16 @@
 -- The commands of a board, a row for each reply: where it comes, and the board after it.
-use Rattle.std.specs.Prelude.{ℕ, ◌≡◌, ◌≤◌, ◌<◌, ◌+◌, ◌-◌, ◌==◌, ◌⊎◌, Bool, true, false, if◌then◌else◌, [], ◌∷◌, ◌++◌, length, Option, Some, None, slice_get, slice_set, ⊤}
+use Rattle.std.specs.Prelude.{ℕ, ◌≡◌, ◌≤◌, ◌<◌, ◌+◌, ◌-◌, ◌==◌, ◌⊎◌, List, Bool, true, false, if◌then◌else◌, [], ◌∷◌, ◌++◌, length, Option, Some, None, slice_get, slice_set, ⊤}
+use Rattle.std.specs.List.{list_any}
 use Rattle.job_board.specs.declared.progress.Progress.{Progress}
 use Rattle.job_board.specs.SheetCalls.{AddsUp, Cancels, HasEnded, IsSettled, StaysEnded, Tells}
 use Rattle.job_board.specs.Hands.{SheetHolding, fresh_holding}
 use Rattle.job_board.specs.Standings.{Later}
 use Rattle.job_forms.specs.declared.job.Job.{Job}
 use Rattle.truncation_list.specs.declared.book.FrontedBook.{FrontedBook}
+use Rattle.job_forms.specs.declared.job.JobKind.{JobKind}
+use Rattle.job_board.specs.declared.status.JobState.{JobState}
+use Rattle.job_board.specs.declared.status.JobState.TheVariants as state
+use Rattle.job_board.specs.declared.status.JobStatus.{JobStatus}
 use Rattle.job_board.specs.declared.posted.Posted.{Posted}
 use Rattle.job_board.specs.declared.posted.WatchedJob.{WatchedJob}
 use Rattle.job_board.specs.declared.shown.Command.{Command}
@@ -24,7 +29,7 @@ book_of b = record { book = record { cuts = []; floor = submitted b }; front = s
 
 -- a board without jobs
 abbrev pub empty : Shown
-empty = record { waiting = []; watches = [] }
+empty = record { waiting = []; watches = []; kinds = []; ends = [] }
 
 -- SUBMIT
 
@@ -45,7 +50,7 @@ pub record IsSubmission (number : ℕ) (job : Job) (places : ℕ) (p : Posted) (
 -- the job gets the next number, and is the last to wait; none where 64 wait or 1,024 were submitted
 abbrev pub Submits : Shown → Job → ℕ → Option ℕ → Shown → Type 0
 Submits b job places (Some n) a =
-    (length b.waiting < 64) × (submitted b < 1024) × (n ≡ submitted b + 1) × ((p : Posted) × (watch : SheetHolding) × IsSubmission n job places p watch × (a ≡ record { waiting = b.waiting ++ p ∷ []; watches = b.watches ++ watch ∷ [] }))
+    (length b.waiting < 64) × (submitted b < 1024) × (n ≡ submitted b + 1) × ((p : Posted) × (watch : SheetHolding) × IsSubmission n job places p watch × (a ≡ record { waiting = b.waiting ++ p ∷ []; watches = b.watches ++ watch ∷ []; kinds = b.kinds ++ job.kind ∷ []; ends = b.ends ++ false ∷ [] }))
 Submits b job places None a = ((64 ≤ length b.waiting) ⊎ (1024 ≤ submitted b)) × (a ≡ b)
 
 -- NEXT
@@ -57,7 +62,7 @@ pub record HasNumber (jobs : ℕ) (p : Posted) : Type 0 where
 
 -- the first that waits is taken, which is one of the jobs of the board; none where none waits
 abbrev pub TakesNext : Shown → Option Posted → Shown → Type 0
-TakesNext b (Some p) a = HasNumber (submitted b) p × (b ≡ record { waiting = p ∷ a.waiting; watches = a.watches })
+TakesNext b (Some p) a = HasNumber (submitted b) p × (b ≡ record { waiting = p ∷ a.waiting; watches = a.watches; kinds = a.kinds; ends = a.ends })
 TakesNext b None a = (b.waiting ≡ []) × (a ≡ b)
 
 -- LOOK AND STOP
@@ -68,21 +73,42 @@ watch_of b n = if n == 0 then None else slice_get b.watches (n - 1)
 
 -- the board with another watch of that job
 abbrev pub with_watch : ℕ → SheetHolding → Shown → Shown
-with_watch n watch b = record { waiting = b.waiting; watches = slice_set b.watches (n - 1) watch }
+with_watch n watch b = record { waiting = b.waiting; watches = slice_set b.watches (n - 1) watch; kinds = b.kinds; ends = b.ends }
 
--- how far the job is, as its watch finds; and of a job of which that has seen the end it tells how it ended
-pub record IsLooked (b : Shown) (n : ℕ) (p : Progress) (a : Shown) : Type 0 where
+-- it is told that so many places are done, so many failed, and so many of those done not kept
+pub record TellsNumbers (s : JobStatus) (done failed unkept : ℕ) : Type 0 where
+  pub done_is : s.progress.done ≡ done
+  pub failed_is : s.progress.failed ≡ failed
+  pub unkept_is : s.progress.unkept ≡ unkept
+
+-- one of these jobs has the number
+abbrev pub is_numbered : ℕ → List Posted → Bool
+is_numbered n ps = list_any (λ (p : Posted). p.number == n) ps
+
+-- Where a job stands that waits or doesn't, and has ended or not: one that has ended is done where none of its places is left, and was cancelled
+-- where some are. A job that was cancelled when no place was left is done
+abbrev pub state_of : Bool → Bool → Progress → JobState
+state_of true ended p = state.Waiting
+state_of false false p = state.Running
+state_of false true p = if p.done + p.failed == p.places then state.Done else state.Cancelled
+
+-- What the job does, where it stands, by whether it waits and whether the board was told of its end, and how far it is, as its watch finds; and of a job of which that has seen the end it tells how it ended
+pub record IsLooked (b : Shown) (n : ℕ) (s : JobStatus) (a : Shown) : Type 0 where
   pub watch : SheetHolding
   pub left : SheetHolding
   pub of_job : watch_of b n ≡ Some watch
-  pub tells : Tells watch left p
-  pub adds_up : AddsUp watch left p
-  pub settled : (done failed : ℕ) → HasEnded watch.sheet.hands watch.seen done failed → (p.done ≡ done) × (p.failed ≡ failed)
+  pub kind : slice_get b.kinds (n - 1) ≡ Some s.kind
+  pub ended : Bool
+  pub ended_is : slice_get b.ends (n - 1) ≡ Some ended
+  pub state : s.state ≡ state_of (is_numbered n b.waiting) ended s.progress
+  pub tells : Tells watch left s.progress
+  pub adds_up : AddsUp watch left s.progress
+  pub settled : (done failed unkept : ℕ) → HasEnded watch.sheet.hands watch.seen done failed unkept → TellsNumbers s done failed unkept
   pub stays : StaysEnded watch.sheet.hands watch.seen left.seen
   pub is : a ≡ with_watch n left b
 
-abbrev pub Looks : Shown → ℕ → Option Progress → Shown → Type 0
-Looks b n (Some p) a = IsLooked b n p a
+abbrev pub Looks : Shown → ℕ → Option JobStatus → Shown → Type 0
+Looks b n (Some s) a = IsLooked b n s a
 Looks b n None a = (watch_of b n ≡ None) × (a ≡ b)
 
 -- the job is cancelled by its watch
@@ -108,13 +134,17 @@ pub record TakesOver (watch ended left : SheetHolding) : Type 0 where
   pub ends : StaysEnded ended.sheet.hands ended.seen left.seen
   pub cancelled : watch.seen.cancelled ≡ true → left.seen.cancelled ≡ true
 
+-- the board with the job of this number among those that have ended
+abbrev pub with_end : ℕ → Shown → Shown
+with_end n b = record { waiting = b.waiting; watches = b.watches; kinds = b.kinds; ends = slice_set b.ends (n - 1) true }
+
 -- the job has ended as this watch of its sheet has seen
 pub record IsFinished (b : Shown) (n : ℕ) (ended : SheetHolding) (a : Shown) : Type 0 where
   pub watch : SheetHolding
   pub left : SheetHolding
   pub of_job : watch_of b n ≡ Some watch
   pub takes : TakesOver watch ended left
-  pub is : a ≡ with_watch n left b
+  pub is : a ≡ with_end n (with_watch n left b)
 
 abbrev pub Finishes : Shown → ℕ → SheetHolding → Bool → Shown → Type 0
 Finishes b n ended true a = IsFinished b n ended a
@@ -141,17 +171,17 @@ TakesNoMemory (command.Finish n job) = ⊤
 abbrev pub BoardMayReply : Shown → Command → Reply → Shown → Type 0
 BoardMayReply b (command.Submit job places) r a = (n : Option ℕ) × (r ≡ reply.Submit n) × Submits b job places n a
 BoardMayReply b command.Next r a = (p : Option Posted) × (r ≡ reply.Next p) × TakesNext b p a
-BoardMayReply b (command.Look n) r a = (p : Option Progress) × (r ≡ reply.Look p) × Looks b n p a
+BoardMayReply b (command.Look n) r a = (s : Option JobStatus) × (r ≡ reply.Look s) × Looks b n s a
 BoardMayReply b (command.Stop n) r a = (is : Bool) × (r ≡ reply.Stop is) × Stops b n is a
 BoardMayReply b (command.Finish n job) r a = (is : Bool) × (r ≡ reply.Finish is) × Finishes b n job.watch is a
 
 -- A JOB THAT IS OVER
 
--- the board has been told of the end of the job of this number: so many places done, and so many failed
-pub record IsOver (b : Shown) (n done failed : ℕ) : Type 0 where
+-- the board has been told of the end of the job of this number: so many places done, so many failed, and so many not kept
+pub record IsOver (b : Shown) (n done failed unkept : ℕ) : Type 0 where
   pub watch : SheetHolding
   pub of_job : watch_of b n ≡ Some watch
-  pub ended : HasEnded watch.sheet.hands watch.seen done failed
+  pub ended : HasEnded watch.sheet.hands watch.seen done failed unkept
 
 -- it tells of the end of the job of this number
 abbrev pub TellsOfEnd : ℕ → Command → Type 0
@@ -164,6 +194,6 @@ TellsOfEnd n (command.Finish m job) = m ≡ n
 -- A job that is over stays so with the same numbers, unless its end is told anew; each look at it tells these numbers; and a finish that
 -- finds its job makes it one, with the numbers that the watch has seen which was handed in
 pub record KeepsOver (b : Shown) (does : Command) (r : Reply) (a : Shown) : Type 0 where
-  pub stays : (n done failed : ℕ) → IsOver b n done failed → ¬ (TellsOfEnd n does) → IsOver a n done failed
-  pub tells : (n done failed : ℕ) (p : Progress) → IsOver b n done failed → does ≡ command.Look n → r ≡ reply.Look (Some p) → (p.done ≡ done) × (p.failed ≡ failed)
-  pub ends : (n done failed : ℕ) (job : WatchedJob) → does ≡ command.Finish n job → r ≡ reply.Finish true → HasEnded job.watch.sheet.hands job.watch.seen done failed → IsOver a n done failed
+  pub stays : (n done failed unkept : ℕ) → IsOver b n done failed unkept → ¬ (TellsOfEnd n does) → IsOver a n done failed unkept
+  pub tells : (n done failed unkept : ℕ) (s : JobStatus) → IsOver b n done failed unkept → does ≡ command.Look n → r ≡ reply.Look (Some s) → TellsNumbers s done failed unkept
+  pub ends : (n done failed unkept : ℕ) (job : WatchedJob) → does ≡ command.Finish n job → r ≡ reply.Finish true → HasEnded job.watch.sheet.hands job.watch.seen done failed unkept → IsOver a n done failed unkept

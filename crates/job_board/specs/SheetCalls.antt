@@ -5,7 +5,7 @@ use Rattle.job_board.specs.declared.standing.HandAccount.{HandAccount}
 use Rattle.job_board.specs.declared.standing.HandEnd.{HandEnd}
 use Rattle.job_board.specs.declared.standing.HandEnd.TheVariants.{AllClaimed, Cancelled, Open}
 use Rattle.job_board.specs.declared.standing.SheetStanding.{SheetStanding}
-use Rattle.job_board.specs.Standings.{IsSound, Later, account, claimed_count, done_count, ending, failed_count, gaining, times, vain_count}
+use Rattle.job_board.specs.Standings.{IsSound, Later, account, claimed_count, done_count, ending, failed_count, gaining, times, unkept_count, vain_count}
 use Rattle.job_board.specs.Hands.{MayReport, SheetHolding, change_own, own, own_of}
 
 -- A standing that the hand may find at a step: a sound one, no earlier than what it has seen, in which its own account is as it left it
@@ -54,6 +54,10 @@ pub record MeetsNone (before after : SheetHolding) : Type 0 where
 abbrev pub one_done : HandAccount → HandAccount
 one_done a = record a { done = a.done + 1 }
 
+-- done, but not kept
+abbrev pub one_unkept : HandAccount → HandAccount
+one_unkept a = record a { done = a.done + 1; unkept = a.unkept + 1 }
+
 abbrev pub one_failed : HandAccount → HandAccount
 one_failed a = record a { failed = a.failed + 1 }
 
@@ -63,6 +67,14 @@ pub record ReportsDone (before after : SheetHolding) (place : ℕ) : Type 0 wher
   pub finds : MayFind before found
   pub is : after ≡ record before { seen = change_own before.number one_done found; done = before.done ++ place ∷ [] }
   pub own_is : own after ≡ one_done (own before)
+  pub sound : IsSound before.sheet.places before.sheet.hands after.seen
+
+-- the same, and the place counts as not kept
+pub record ReportsUnkept (before after : SheetHolding) (place : ℕ) : Type 0 where
+  pub found : SheetStanding
+  pub finds : MayFind before found
+  pub is : after ≡ record before { seen = change_own before.number one_unkept found; done = before.done ++ place ∷ [] }
+  pub own_is : own after ≡ one_unkept (own before)
   pub sound : IsSound before.sheet.places before.sheet.hands after.seen
 
 pub record ReportsFailed (before after : SheetHolding) (place : ℕ) : Type 0 where
@@ -84,8 +96,8 @@ pub record Cancels (before after : SheetHolding) : Type 0 where
 
 -- PROGRESS
 
--- The numbers done and failed are those of two standings that the hand found, one after the other, and the others are those of a third one, which it has
--- seen then. Each hand that met None has counted as claimed once in vain, but no more than all places count
+-- The numbers done and not kept are those of one standing that the hand found, the number failed is that of one after it, and the others are those of a
+-- third one, which it has seen then. Each hand that met None has counted as claimed once in vain, but no more than all places count
 pub record Tells (before after : SheetHolding) (p : Progress) : Type 0 where
   pub first : SheetStanding
   pub second : SheetStanding
@@ -96,12 +108,13 @@ pub record Tells (before after : SheetHolding) (p : Progress) : Type 0 where
   pub own_is : own after ≡ own before
   pub places : p.places ≡ before.sheet.places
   pub done : p.done ≡ done_count first
+  pub unkept : p.unkept ≡ unkept_count first
   pub failed : p.failed ≡ failed_count second
   pub claimed : p.claimed ≡ min (claimed_count after.seen + vain_count after.seen) before.sheet.places
   pub cancelled : p.cancelled ≡ after.seen.cancelled
 
 -- How the numbers stand to one another, and to what the hand has seen before and after: `claimed` is exact while the job is not cancelled, and may after
--- that count one vain claim for each hand
+-- that count one vain claim for each hand.
 pub record AddsUp (before after : SheetHolding) (p : Progress) : Type 0 where
   pub reported : p.done + p.failed ≤ claimed_count after.seen
   pub claimed : claimed_count after.seen ≤ p.claimed
@@ -111,6 +124,7 @@ pub record AddsUp (before after : SheetHolding) (p : Progress) : Type 0 where
   pub at_least : (done_count before.seen ≤ p.done) × (failed_count before.seen ≤ p.failed) × (claimed_count before.seen ≤ p.claimed)
   pub at_most : (p.done ≤ done_count after.seen) × (p.failed ≤ failed_count after.seen)
   pub cancelled : before.seen.cancelled ≡ true → p.cancelled ≡ true
+  pub unkept : (unkept_count before.seen ≤ p.unkept) × (p.unkept ≤ p.done)
 
 -- each hand has met None, and has reported all that it claimed
 abbrev pub IsSettled : ℕ → SheetStanding → Type 0
@@ -120,17 +134,19 @@ IsSettled hands s = (number : ℕ) → number < hands → ((account s number).en
 pub record IsFinal (s : SheetStanding) (p : Progress) : Type 0 where
   pub done : p.done ≡ done_count s
   pub failed : p.failed ≡ failed_count s
+  pub unkept : p.unkept ≡ unkept_count s
   pub all : p.done + p.failed ≡ claimed_count s
 
--- a standing in which nothing is left to do or to report: so many places are done, and so many failed
-pub record HasEnded (hands : ℕ) (s : SheetStanding) (done failed : ℕ) : Type 0 where
+-- a standing in which nothing is left to do or to report: so many places are done, so many failed, and so many of those done are not kept
+pub record HasEnded (hands : ℕ) (s : SheetStanding) (done failed unkept : ℕ) : Type 0 where
   pub settled : IsSettled hands s
   pub done_is : done ≡ done_count s
   pub failed_is : failed ≡ failed_count s
+  pub unkept_is : unkept ≡ unkept_count s
 
 -- what has ended with these numbers stays so
 abbrev pub StaysEnded : ℕ → SheetStanding → SheetStanding → Type 0
-StaysEnded hands before after = (done failed : ℕ) → HasEnded hands before done failed → HasEnded hands after done failed
+StaysEnded hands before after = (done failed unkept : ℕ) → HasEnded hands before done failed unkept → HasEnded hands after done failed unkept
 
 -- GATHERING
 
@@ -148,12 +164,15 @@ claimed_by hands = sum_by (λ (h : SheetHolding). length (own h).claimed) hands
 abbrev pub claims_by : ℕ → List SheetHolding → ℕ
 claims_by place hands = sum_by (λ (h : SheetHolding). times place (own h).claimed) hands
 
--- how many places these hands have reported done, and failed
+-- how many places these hands have reported done, failed and not kept
 abbrev pub done_by : List SheetHolding → ℕ
 done_by hands = sum_by (λ (h : SheetHolding). (own h).done) hands
 
 abbrev pub failed_by : List SheetHolding → ℕ
 failed_by hands = sum_by (λ (h : SheetHolding). (own h).failed) hands
+
+abbrev pub unkept_by : List SheetHolding → ℕ
+unkept_by hands = sum_by (λ (h : SheetHolding). (own h).unkept) hands
 
 -- what these hands have claimed is the places below how many they are, each claimed by one of them, once
 pub record ShareOut (places : ℕ) (hands : List SheetHolding) : Type 0 where

@@ -9,7 +9,7 @@ use Rattle.job_board.specs.declared.standing.SheetStanding.{SheetStanding}
 
 -- the account of a hand that did nothing
 abbrev pub fresh : HandAccount
-fresh = record { claimed = []; done = 0; failed = 0; end = Open }
+fresh = record { claimed = []; done = 0; unkept = 0; failed = 0; end = Open }
 
 -- the account after a claim of this place, and after a claim that met None
 abbrev pub gaining : ℕ → HandAccount → HandAccount
@@ -28,10 +28,13 @@ vain Open = 0
 vain AllClaimed = 1
 vain Cancelled = 1
 
--- a later account of the same hand: a hand only adds to its claims and reports, and claims no more once it met None
+-- a later account of the same hand: a hand only adds to its claims and reports, what it adds to those not kept it adds to those done, too,
+-- and it claims no more once it met None
 pub record LaterAccount (a b : HandAccount) : Type 0 where
   pub claimed : (more : List ℕ) × (b.claimed ≡ a.claimed ++ more)
   pub done : a.done ≤ b.done
+  pub unkept : a.unkept ≤ b.unkept
+  pub unkept_done : b.unkept + a.done ≤ a.unkept + b.done
   pub failed : a.failed ≤ b.failed
   pub ended : a.end ≢ Open → (b.claimed ≡ a.claimed) × (b.end ≡ a.end)
 
@@ -45,7 +48,7 @@ account s number = slice_index_or s.accounts number fresh
 abbrev pub with_account : ℕ → HandAccount → SheetStanding → SheetStanding
 with_account number a s = record s { accounts = slice_set s.accounts number a }
 
--- how many places are claimed, and how many of these are reported done, and failed
+-- how many places are claimed, how many of these are reported done, and failed, and how many of those done are not kept
 abbrev pub claimed_count : SheetStanding → ℕ
 claimed_count s = sum_by (λ (a : HandAccount). length a.claimed) s.accounts
 
@@ -54,6 +57,9 @@ done_count s = sum_by (λ (a : HandAccount). a.done) s.accounts
 
 abbrev pub failed_count : SheetStanding → ℕ
 failed_count s = sum_by (λ (a : HandAccount). a.failed) s.accounts
+
+abbrev pub unkept_count : SheetStanding → ℕ
+unkept_count s = sum_by (λ (a : HandAccount). a.unkept) s.accounts
 
 -- how many hands have met None
 abbrev pub vain_count : SheetStanding → ℕ
@@ -70,7 +76,8 @@ HasCause places s AllClaimed = claimed_count s ≡ places
 HasCause places s Cancelled = s.cancelled ≡ true
 
 -- A standing that a sheet of so many places and hands can have. The places claimed are the numbers below how many they are, each claimed
--- once, by one hand; a hand has met None only for a cause; and it has reported no more places than it claimed
+-- once, by one hand; a hand has met None only for a cause; and it has reported no more places than it claimed, and no more as not kept than as
+-- done
 pub record IsSound (places hands : ℕ) (s : SheetStanding) : Type 0 where
   pub all : length s.accounts ≡ hands
   pub within : claimed_count s ≤ places
@@ -78,6 +85,7 @@ pub record IsSound (places hands : ℕ) (s : SheetStanding) : Type 0 where
   pub none_else : (place : ℕ) → claimed_count s ≤ place → claims_of place s ≡ 0
   pub cause : (number : ℕ) → HasCause places s (account s number).end
   pub reported : (number : ℕ) → (account s number).done + (account s number).failed ≤ length (account s number).claimed
+  pub unkept : (number : ℕ) → (account s number).unkept ≤ (account s number).done
 
 -- a standing of the same sheet at a later moment, or the same one
 pub record Later (a b : SheetStanding) : Type 0 where

@@ -1,9 +1,9 @@
 -- What a seat of a sheet's table knows, and the three words of the table.
-use Rattle.std.specs.Prelude.{◌≡◌, ℕ, ◌+◌, ◌^◌, ◌<◌, ◌≤◌, ◌⊎◌, Bool, true, false, List, [], ◌∷◌, Some, None}
+use Rattle.std.specs.Prelude.{◌≡◌, ℕ, ◌+◌, ◌*◌, ◌^◌, ◌<◌, ◌≤◌, ◌⊎◌, Bool, true, false, List, [], ◌∷◌, Some, None}
 use Rattle.job_board.specs.declared.standing.SheetStanding.{SheetStanding}
 use Rattle.job_board.specs.declared.view.SheetSize.{SheetSize}
 use Rattle.job_board.specs.declared.view.SeatView.{SeatView}
-use Rattle.job_board.specs.Standings.{claimed_count, done_count, failed_count, vain_count}
+use Rattle.job_board.specs.Standings.{claimed_count, done_count, failed_count, unkept_count, vain_count}
 use Rattle.job_board.specs.Hands.{fresh_standing}
 
 -- THE WORDS
@@ -17,8 +17,12 @@ mark_of false = 0
 abbrev pub claim_word : SheetStanding → ℕ
 claim_word s = claimed_count s + vain_count s + mark_of s.cancelled
 
+-- one word counts the places done, and above them those of these that are not kept
+abbrev pub done_word : SheetStanding → ℕ
+done_word s = done_count s + 2 ^ 32 * unkept_count s
+
 abbrev pub words_of : SheetStanding → List ℕ
-words_of s = claim_word s ∷ done_count s ∷ failed_count s ∷ []
+words_of s = claim_word s ∷ done_word s ∷ failed_count s ∷ []
 
 -- THE VIEWS
 

@@ -8,8 +8,8 @@ use crate::board::Board;
 use crate::fault::BoardFault;
 use crate::posted::{Posted, WatchedJob};
 use crate::posts::Posts;
-use crate::progress::Progress;
 use crate::shown::{Command, Reply};
+use crate::status::JobStatus;
 use job_forms::Job;
 use std::alloc::Global;
 use std::sync::Wait;
@@ -59,16 +59,16 @@ impl Board {
         }
     }
 
-    /// How far the job of a number is; none exactly where the number is 0 or above the number of jobs that the turn found. It takes no
+    /// Where the job of a number stands, and how far it is; none exactly where the number is 0 or above the number of jobs that the turn found. It takes no
     /// memory.
     #[tactic(auto, using(crate::proofs::Over::keeps_over))]
-    pub fn look<R: Wait>(&self, rt: &R, pass: &mut Pass<Posts>, number: u64) -> Option<Progress>
+    pub fn look<R: Wait>(&self, rt: &R, pass: &mut Pass<Posts>, number: u64) -> Option<JobStatus>
         requires of { IsBoardPass self.now.turnstile.table pass.old }
         ensures look { MakesOne pass.old pass.new (Command.Look number) (Reply.Look result) }
         ensures of { IsBoardPass self.now.turnstile.table pass.new }
     {
         match self.turnstile.turn_plain(rt, pass, Command::Look(number)) {
-            Reply::Look(progress) => progress,
+            Reply::Look(status) => status,
             _ => unreachable!(),
         }
     }
@@ -88,7 +88,7 @@ impl Board {
     }
 
     /// Tells the board that the job of a number has ended, by a watch of its sheet that has seen all that its hands did: each later look at
-    /// the job tells these numbers of places done and failed. False exactly where the number is 0 or above the number of jobs that the turn
+    /// the job tells these numbers of places done, failed and not kept. False exactly where the number is 0 or above the number of jobs that the turn
     /// found. It takes no memory.
     #[tactic(auto, using(crate::proofs::Over::keeps_over))]
     pub fn finish<R: Wait>(

@@ -1,15 +1,15 @@
 //! The three words of a sheet, and the steps on them.
 ghost use Rattle.std.specs.Prelude.{◌≡◌, ◌≢◌, ◌<◌, ◌≤◌, true, [], None, IfOk};
 ghost use Rattle.job_board.specs.Hands.{own_of};
-ghost use Rattle.job_board.specs.SheetCalls.{one_done, one_failed};
-ghost use Rattle.job_board.specs.Standings.{done_count, failed_count};
+ghost use Rattle.job_board.specs.SheetCalls.{one_done, one_failed, one_unkept};
+ghost use Rattle.job_board.specs.Standings.{failed_count};
 ghost use Rattle.job_board.specs.Steps.{CancelledBy, ClaimedBy, HasSeatNumber, HasUnreported, HeardBy, ReadBy, ReportedBy};
-ghost use Rattle.job_board.specs.Views.{claim_word, dealer, dealt_to, note_of, one_less};
+ghost use Rattle.job_board.specs.Views.{claim_word, dealer, dealt_to, done_word, note_of, one_less};
 ghost use Rattle.job_board.specs.declared.standing.HandEnd.TheVariants.{Open};
 
 use crate::plays::{
     Cancel, Claim, DealHand, HearNote, ReadClaims, ReadDone, ReadFailed, ReportDone, ReportFailed,
-    TakeNote,
+    ReportUnkept, TakeNote,
 };
 use crate::view::{OneStanding, SeatView, SheetSize};
 use atomic_table::{Seat, Table};
@@ -17,6 +17,9 @@ use std::alloc::{AllocError, Global};
 
 /// The mark of a cancelled job in the claim word. Every count is below it.
 pub const CANCELLED: u64 = 0x8000_0000_0000_0000;
+
+/// What counts one place that was not kept, in the word of the places done, which is above the number of those.
+pub const UNKEPT: u64 = 0x1_0000_0000;
 
 /// The table with the three words, and its size.
 #[derive(Drop)]
@@ -88,6 +91,20 @@ impl SheetCounts {
         self.table.shared.fetch_add::<ReportDone>(seat, 1, 1);
     }
 
+    /// Reports one more place done, which was not kept.
+    pub fn report_unkept(&self, seat: &mut Seat<(), SeatView>)
+        requires own { seat.old.table_id ≡ self.now.table.shared.table_id }
+        requires live { seat.old.me.0.live ≡ true }
+        requires hand { HasSeatNumber seat.old.me.0 }
+        requires unreported { HasUnreported seat.old.me.0 }
+        ensures own { seat.new.table_id ≡ seat.old.table_id }
+        ensures reported { ReportedBy one_unkept seat.old.me seat.new.me }
+    {
+        self.table
+            .shared
+            .fetch_add::<ReportUnkept>(seat, 1, 0x1_0000_0001);
+    }
+
     /// Reports one more place failed.
     pub fn report_failed(&self, seat: &mut Seat<(), SeatView>)
         requires own { seat.old.table_id ≡ self.now.table.shared.table_id }
@@ -120,12 +137,12 @@ impl SheetCounts {
         self.table.shared.load::<ReadClaims>(seat, 0)
     }
 
-    /// Reads how many places are reported done.
+    /// Reads how many places are reported done, and how many of these were not kept.
     pub fn read_done(&self, seat: &mut Seat<(), SeatView>) -> u64
         requires own { seat.old.table_id ≡ self.now.table.shared.table_id }
         requires live { seat.old.me.0.live ≡ true }
         ensures own { seat.new.table_id ≡ seat.old.table_id }
-        ensures read { ReadBy done_count seat.old.me result seat.new.me }
+        ensures read { ReadBy done_word seat.old.me result seat.new.me }
     {
         self.table.shared.load::<ReadDone>(seat, 1)
     }

@@ -3,7 +3,8 @@
 //! A board is a chest behind a turnstile, which threads take turns at. Promises (`specs/Boards.antt`): each call is one turn, whose
 //! reply has its row; a job enters the waiting list at its submission alone, at the end, and leaves it, the first of it, at the `next`
 //! that posts it, so that what is posted was submitted, and is posted once; how far a job is, is what its sheet's watch finds in
-//! that turn; and from the `finish` on that told of the end of a job, each look at it tells the same numbers of places done and failed.
+//! that turn, it is told to wait exactly where it is on the waiting list, and to have ended only where all its hands have; and from the
+//! `finish` on that told of the end of a job, each look at it tells the same numbers of places done, failed and not kept.
 //!
 //! A `JobSheet` has the places 0 to `places` - 1, which its hands claim and then report done or failed, from any threads; `watch` is one
 //! further hand, to look on and to cancel. Each call is a few single steps on atomic words, and none waits. Promises (`specs/Hands.antt`,
@@ -27,6 +28,7 @@ mod rows;
 mod sheet;
 mod shown;
 mod standing;
+mod status;
 mod view;
 
 pub use board::{Board, BoardEntry, BoardPass};
@@ -38,4 +40,5 @@ pub use progress::Progress;
 pub use sheet::{Desk, JobSheet};
 pub use shown::{Command, Note, Reply, Shown};
 pub use standing::{HandAccount, HandEnd, SheetStanding};
+pub use status::{JobState, JobStatus};
 pub use view::{OneStanding, SeatView, SheetSize};

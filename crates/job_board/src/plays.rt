@@ -21,6 +21,16 @@ impl Play<(), SeatView> for ReportDone {
     ghost then = { λ _ me _ after. ReportedBy one_done me after };
 }
 
+/// One more place is reported done that was not kept.
+pub struct ReportUnkept;
+
+impl Play<(), SeatView> for ReportUnkept {
+    ghost use Rattle.job_board.specs.SheetCalls.{one_unkept};
+    ghost use Rattle.job_board.specs.Steps.{ReportedBy};
+
+    ghost then = { λ _ me _ after. ReportedBy one_unkept me after };
+}
+
 /// One more place is reported failed.
 pub struct ReportFailed;
 
@@ -50,14 +60,14 @@ impl Play<(), SeatView> for ReadClaims {
     ghost then = { λ _. ReadBy claim_word };
 }
 
-/// A load of the number of places reported done.
+/// A load of the numbers of places reported done, and not kept.
 pub struct ReadDone;
 
 impl Play<(), SeatView> for ReadDone {
-    ghost use Rattle.job_board.specs.Standings.{done_count};
+    ghost use Rattle.job_board.specs.Views.{done_word};
     ghost use Rattle.job_board.specs.Steps.{ReadBy};
 
-    ghost then = { λ _. ReadBy done_count };
+    ghost then = { λ _. ReadBy done_word };
 }
 
 /// A load of the number of places reported failed.

@@ -1,27 +1,30 @@
 //! The board as a chest: a turn does one of its commands.
 use crate::posted::{Posted, WatchedJob};
 use crate::shown::{Command, Note, Reply, Shown};
+use job_forms::JobKind;
 use std::alloc::{AllocError, Global};
 use std::marker::Model;
 use turnstile::Chest;
 
-/// The jobs of a server. Contracts see which wait, and the watches of all.
+/// The jobs of a server. Contracts see which wait, and of all the watches, what they do, and which have ended.
 #[derive(Drop)]
 pub struct Posts {
     pub(crate) waiting: Vec<Posted>,
     pub(crate) jobs: Vec<WatchedJob>,
+    pub(crate) kinds: Vec<JobKind>,
+    pub(crate) ends: Vec<bool>,
 }
 
 impl Model for Posts {
-    ghost use Rattle.std.specs.Prelude.{All, ◌≤◌, length, map};
+    ghost use Rattle.std.specs.Prelude.{All, ◌≡◌, ◌≤◌, length, map};
     ghost use Rattle.job_board.specs.Boards.{HasNumber};
     ghost use Rattle.job_board.specs.declared.shown.Shown.{Shown};
 
     ghost Value = { Shown };
 
-    ghost view = { λ p. record { waiting = p.waiting.items; watches = map (λ j. j.watch) p.jobs.items } };
+    ghost view = { λ p. record { waiting = p.waiting.items; watches = map (λ j. j.watch) p.jobs.items; kinds = p.kinds.items; ends = p.ends.items } };
 
-    ghost invariant = { λ p. (length p.jobs.items ≤ 1024) × All (HasNumber (length p.jobs.items)) p.waiting.items };
+    ghost invariant = { λ p. (length p.jobs.items ≤ 1024) × All (HasNumber (length p.jobs.items)) p.waiting.items × (length p.kinds.items ≡ length p.jobs.items) × (length p.ends.items ≡ length p.jobs.items) };
 }
 
 impl Chest for Posts {

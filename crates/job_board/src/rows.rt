@@ -1,12 +1,12 @@
 //! The commands of the board, one by one.
-ghost use Rattle.std.specs.Prelude.{◌≡◌, IfOk, OnErr};
-ghost use Rattle.job_board.specs.Boards.{Finishes, IsSubmission, Looks, MaySubmit, Stops, Submits, TakesNext, TakesOver, empty};
+ghost use Rattle.std.specs.Prelude.{◌≡◌, ◌==◌, IfOk, OnErr};
+ghost use Rattle.job_board.specs.Boards.{Finishes, IsSubmission, Looks, MaySubmit, Stops, Submits, TakesNext, TakesOver, empty, is_numbered};
 ghost use Rattle.job_board.specs.SheetCalls.{Cancels, IsSettled, StaysEnded};
 
 use crate::posted::{Posted, WatchedJob};
 use crate::posts::Posts;
-use crate::progress::Progress;
 use crate::sheet::{Desk, JobSheet};
+use crate::status::{JobStatus, state_of};
 use job_forms::Job;
 use std::alloc::{AllocError, Global};
 use std::sync::Arc;
@@ -72,6 +72,18 @@ fn taken_over(old: &mut WatchedJob, ended: WatchedJob) -> WatchedJob
     ended
 }
 
+/// Whether one of these jobs has the number.
+fn is_numbered(jobs: &[Posted], number: u64) -> bool
+    ensures { result ≡ is_numbered number jobs.now }
+{
+    'seeking: for job in jobs {
+        if job.number == number {
+            return true;
+        }
+    }
+    false
+}
+
 impl Posts {
     /// A board without jobs.
     pub(crate) fn new(alloc: Global) -> Posts
@@ -80,6 +92,8 @@ impl Posts {
         Posts {
             waiting: Vec::new(alloc),
             jobs: Vec::new(alloc),
+            kinds: Vec::new(alloc),
+            ends: Vec::new(alloc),
         }
     }
 
@@ -100,10 +114,14 @@ impl Posts {
         }
         self.waiting.reserve(1)?;
         self.jobs.reserve(1)?;
+        self.kinds.reserve(1)?;
+        self.ends.reserve(1)?;
         let number = self.jobs.len() as u64 + 1;
         let (posted, watched) = new_job(alloc, number, job, places)?;
         self.waiting.push_reserved(posted);
         self.jobs.push_reserved(watched);
+        self.kinds.push_reserved(job.kind);
+        self.ends.push_reserved(false);
         Ok(Some(number))
     }
 
@@ -117,15 +135,23 @@ impl Posts {
         Some(self.waiting.remove(0))
     }
 
-    /// How far a job is; none where no job has the number.
-    pub(crate) fn look(&mut self, number: u64) -> Option<Progress>
+    /// Where a job stands, and how far it is; none where no job has the number.
+    pub(crate) fn look(&mut self, number: u64) -> Option<JobStatus>
         ensures { Looks self.old number result self.new }
     {
         if number == 0 || number > self.jobs.len() as u64 {
             return None;
         }
+        let is_waiting = is_numbered(&self.waiting, number);
+        let kind = self.kinds[number as usize - 1];
+        let has_ended = self.ends[number as usize - 1];
         let job = &mut self.jobs[number as usize - 1];
-        Some(job.sheet.progress(&mut job.watch))
+        let progress = job.sheet.progress(&mut job.watch);
+        Some(JobStatus {
+            kind,
+            state: state_of(is_waiting, has_ended, &progress),
+            progress,
+        })
     }
 
     /// Cancels a job, and says whether there is one of this number.
@@ -150,6 +176,7 @@ impl Posts {
         }
         let job = &mut self.jobs[number as usize - 1];
         *job = taken_over(job, ended);
+        self.ends[number as usize - 1] = true;
         true
     }
 }

@@ -2,7 +2,7 @@
 ghost use Rattle.std.specs.Prelude.{◌≡◌, ◌≤◌, ◌<◌, IfOk, None, IfNone, IfSome, Contains, List};
 ghost use Rattle.job_board.specs.Hands.{AreFresh, fresh_holding, MayClaim, MayReport, AreApart, HasGathered, SheetHolding, own, watching};
 ghost use Rattle.job_board.specs.Seats.{IsDealer};
-ghost use Rattle.job_board.specs.SheetCalls.{Cancels, Claims, MeetsNone, ReportsDone, ReportsFailed, StaysEnded, Gathers, ShareOut, claimed_by};
+ghost use Rattle.job_board.specs.SheetCalls.{Cancels, Claims, MeetsNone, ReportsDone, ReportsFailed, ReportsUnkept, StaysEnded, Gathers, ShareOut, claimed_by};
 ghost use Rattle.job_board.specs.declared.standing.HandEnd.TheVariants.{AllClaimed};
 
 use crate::counts::SheetCounts;
@@ -110,6 +110,16 @@ impl JobSheet {
         ensures { ReportsDone hand.old hand.new place }
     {
         self.counts.report_done(&mut hand.seat);
+        hand.done = hand.done.and(&place);
+    }
+
+    /// Reports a place done that the hand has claimed and not reported, of which nothing could be kept.
+    pub fn unkept(&self, hand: &mut Hand, place: u64)
+        requires own { hand.old.sheet ≡ self.now }
+        requires unreported { MayReport hand.old place }
+        ensures { ReportsUnkept hand.old hand.new place }
+    {
+        self.counts.report_unkept(&mut hand.seat);
         hand.done = hand.done.and(&place);
     }
 

@@ -1,8 +1,8 @@
 //! What a turn at the board does and is answered, and what the board shows between two turns.
 use crate::hand::Hand;
 use crate::posted::{Posted, WatchedJob};
-use crate::progress::Progress;
-use job_forms::Job;
+use crate::status::JobStatus;
+use job_forms::{Job, JobKind};
 use std::collections::LinkedList;
 
 /// What a turn does.
@@ -27,8 +27,8 @@ pub enum Reply {
     Submit(Option<u64>),
     /// The job that has waited longest; none where none waits.
     Next(Option<Posted>),
-    /// How far the job is; none where no job has the number.
-    Look(Option<Progress>),
+    /// Where the job stands, and how far it is; none where no job has the number.
+    Look(Option<JobStatus>),
     /// Whether a job has the number.
     Stop(bool),
     /// Whether a job has the number.
@@ -36,10 +36,13 @@ pub enum Reply {
 }
 
 /// What a board shows: the jobs that wait, in the order of their submissions, and of each job that was ever submitted, in the order of
-/// their numbers, the watch of its sheet, as it has seen the sheet last. No value of it is made.
+/// their numbers, the watch of its sheet, as it has seen the sheet last, what it does, and whether the board was told of
+/// its end. No value of it is made.
 pub struct Shown {
     pub waiting: LinkedList<Posted>,
     pub watches: LinkedList<Hand>,
+    pub kinds: LinkedList<JobKind>,
+    pub ends: LinkedList<bool>,
 }
 
 /// A command, its reply, and what the board showed before and after. No value of it is made.

@@ -8,11 +8,12 @@ pub enum HandEnd {
     Cancelled,
 }
 
-/// What one hand has claimed, in order, how many of these places it has reported done and failed, and whether it has met
-/// None.
+/// What one hand has claimed, in order, how many of these places it has reported done and failed, how many of those done it has reported
+/// not kept, and whether it has met None.
 pub struct HandAccount {
     pub claimed: LinkedList<u64>,
     pub done: u64,
+    pub unkept: u64,
     pub failed: u64,
     pub end: HandEnd,
 }

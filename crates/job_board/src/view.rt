@@ -1,7 +1,7 @@
 //! The table of a sheet: what each seat knows, and the rule that ties it to the words.
 //!
-//! Word 0 counts the claims, and has the mark of a cancelled job; word 1 counts the places reported done, and word 2 those
-//! reported failed.
+//! Word 0 counts the claims, and has the mark of a cancelled job; word 1 counts the places reported done, and in its upper half those of
+//! these that were not kept, so that one step counts a place in both; word 2 counts those reported failed.
 use crate::standing::SheetStanding;
 use atomic_table::TableRule;
 

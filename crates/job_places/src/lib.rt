@@ -3,8 +3,8 @@
 //! `visit` is written once, over any access: that of a thread that has a cabinet for itself, as the word `job` runs a job, or that of one
 //! among many, as a crew does.
 //! Promises (`specs/Visits.antt`): a visit made the turns of one refresh of the place's metatile, by force in a reseed, or that of the one
-//! truncation, and no others; the place is done exactly where that answered no fault, and otherwise it is said which one. A `Tally` counts
-//! how places ended.
+//! truncation, and no others; the place is done exactly where that answered no fault, and otherwise it is said which one; and it is said where a metatile was
+//! rendered and could not be kept. A `Tally` counts how places ended.
 //! Stands on job_forms and cache_access.
 #![tactic(auto)]
 

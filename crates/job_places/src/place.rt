@@ -20,8 +20,10 @@ pub enum PlaceFault {
 /// How a place ended.
 #[derive(Clone, Copy, PartialEq, Eq)]
 pub enum PlaceEnd {
-    /// Its metatile was kept or is rendered, or its cut is made.
+    /// Its metatile is kept, or its cut is made.
     Done,
+    /// Its metatile is rendered, and could not be kept: it was overtaken, there was no room, or the disk failed. It is done, too.
+    Unkept,
     /// It was left undone.
     Failed(PlaceFault),
 }
@@ -32,7 +34,7 @@ impl PlaceEnd {
         ensures { result ≡ is_done self.now }
     {
         match self {
-            PlaceEnd::Done => true,
+            PlaceEnd::Done | PlaceEnd::Unkept => true,
             PlaceEnd::Failed(_) => false,
         }
     }

@@ -16,12 +16,13 @@ use source_render::Source;
 use std::alloc::{AllocError, Global};
 use truncation_list::Cover;
 
-/// How a refresh ends the place of its metatile: one that is rendered and could not be kept is done too.
+/// How a refresh ends the place of its metatile.
 fn end_of_refresh(answer: Result<Refreshed, GetFault>) -> PlaceEnd
     ensures { result ≡ end_of_refresh answer }
 {
     match answer {
-        Ok(_) => PlaceEnd::Done,
+        Ok(Refreshed::AlreadyKept(_) | Refreshed::Made(_)) => PlaceEnd::Done,
+        Ok(Refreshed::Unkept(_)) => PlaceEnd::Unkept,
         Err(GetFault::SourceFault) => PlaceEnd::Failed(PlaceFault::Source),
         Err(GetFault::Spent) => PlaceEnd::Failed(PlaceFault::Spent),
         Err(GetFault::OutOfMemory) => PlaceEnd::Failed(PlaceFault::Memory),
@@ -92,7 +93,8 @@ fn cut<A: Access>(access: &A, alloc: Global, cache: &mut A::Cache, cover: &Cover
 }
 
 /// Visits a place of a job that fits: refreshes its metatile, by force in a reseed, or makes the one cut of a truncation, and says how that
-/// ended. It is done where a metatile is kept, or rendered though it could not be kept, and where the cut is made.
+/// ended. It is done where a metatile is kept, and where the cut is made; and `Unkept`, which is done too, exactly where the refresh said that
+/// it rendered the metatile and could not keep it.
 ///
 /// Each fault is that of the refresh or of the cut, and named: `Source` only if the source's count of faults rose; `Spent` if no number of
 /// a render or of a cut is left; `CutsFull` if there is no room for the cut; `Disk` if the disk failed at the cut; `Memory` if memory ran out.

@@ -9,10 +9,9 @@ use Rattle.catalog.specs.declared.catalogue.Catalogue.{Catalogue}
 use Rattle.base.specs.Causes.{RoseBy}
 use Rattle.job_places.specs.declared.place.PlaceEnd.{PlaceEnd}
 use Rattle.job_places.specs.declared.tally.Tally.{Tally}
-use Rattle.job_places.specs.Ends.{is_done}
 use Rattle.job_places.specs.Tallies.{one_more, tally_of}
 use Rattle.job_places.specs.Visits.{forces}
-use Rattle.job_places.proofs.Counting.{adds_up, one_counted, tally_more}
+use Rattle.job_places.proofs.Counting.{adds_up, one_counted, tally_more, unkept_within}
 use Rattle.job_forms.specs.declared.job.Job.{Job}
 use Rattle.job_forms.specs.Places.{Place, places}
 use Rattle.job_words.specs.Coming.{ComesTo}
@@ -55,7 +54,7 @@ pub record IsPart (told : Option ℕ) (renders disk : FaultCounts) (job : Job) (
 none_rose : (n : ℕ) → RoseBy 0 n n
 none_rose n = omega arith
 
-pub part_none : (told : Option ℕ) (renders disk : ℕ) (job : Job) (s : State) → IsPart told (counts renders renders) (counts disk disk) job 0 (record { places = 0; done = 0; failed = 0 }) s s
+pub part_none : (told : Option ℕ) (renders disk : ℕ) (job : Job) (s : State) → IsPart told (counts renders renders) (counts disk disk) job 0 (record { places = 0; done = 0; failed = 0; unkept = 0 }) s s
 part_none told renders disk job s = record {
   visits = [];
   each = refl;
@@ -84,7 +83,7 @@ module _ (told via : Option ℕ) (before mid after disk_before disk_mid disk_aft
       map-append (λ (v : LoneVisit). v.place) part.visits (visit ∷ []) ∙ ap (λ ps. ps ++ p ∷ []) part.each
       ∙ ap (λ x. take n all ++ x ∷ []) (sym (get_or_from_slice_get all n p p at_first)) ∙ sym (take-suc all n p (slice_get_within all n p at_first))
 
-  pub part_more : IsPart told (counts before after) (counts disk_before disk_after) job (n + 1) (one_more (is_done e) tally) s u
+  pub part_more : IsPart told (counts before after) (counts disk_before disk_after) job (n + 1) (one_more e tally) s u
   part_more =
       let one : suc n ≡ n + 1 = omega arith in
       let l = part.disk_later in
@@ -93,8 +92,8 @@ module _ (told via : Option ℕ) (before mid after disk_before disk_mid disk_aft
         visits = part.visits ++ visit ∷ [];
         each = subst (λ k. map (λ (v : LoneVisit). v.place) (part.visits ++ visit ∷ []) ≡ take k (places s.catalogue job)) one each_more;
         goes = goes_on (forces job.kind) s t u part.visits visit part.goes comes.made;
-        counted = ap (one_more (is_done e)) part.counted ∙ tally_more (ends_of part.visits) e ∙ ap tally_of (sym (map-append (λ (v : LoneVisit). v.end) part.visits (visit ∷ [])));
-        many = one_counted (is_done e) tally ∙ ap (λ k. k + 1) part.many;
+        counted = ap (one_more e) part.counted ∙ tally_more (ends_of part.visits) e ∙ ap tally_of (sym (map-append (λ (v : LoneVisit). v.end) part.visits (visit ∷ [])));
+        many = one_counted e tally ∙ ap (λ k. k + 1) part.many;
         failed = subst (λ k. RoseBy k before after) (sym (sum_by-append _ part.visits (visit ∷ []))) (rose_more _ _ before mid after part.failed comes.failed);
         faults = subst (λ k. RoseBy k disk_before disk_after) (sym (sum_by-append _ part.visits (visit ∷ []))) (rose_more _ _ disk_before disk_mid disk_after part.faults comes.faults);
         disk_later = omega arith;
@@ -103,10 +102,13 @@ module _ (told via : Option ℕ) (before mid after disk_before disk_mid disk_aft
       }
 
 -- there is room for one more place in the tally
-pub countable : (told : Option ℕ) (renders disk : FaultCounts) (job : Job) (n most : ℕ) (tally : Tally) (s t : State) → IsPart told renders disk job n tally s t → n < most → most ≤ 10000000 → (tally.places < 10000000) × (tally.done + tally.failed ≤ tally.places)
+pub countable : (told : Option ℕ) (renders disk : FaultCounts) (job : Job) (n most : ℕ) (tally : Tally) (s t : State) → IsPart told renders disk job n tally s t → n < most → most ≤ 10000000 → (tally.places < 10000000) × (tally.done + tally.failed ≤ tally.places) × (tally.unkept ≤ tally.done)
 countable told renders disk job n most tally s t part below few =
     let m = part.many in
-    let all = all_counted tally part.visits part.counted in (omega (arith, m, below, few), omega (arith, all))
+    let all = all_counted tally part.visits part.counted in
+    let unkept = unkept_within (ends_of part.visits) in
+    let done_is = ap (λ (t : Tally). t.done) part.counted in
+    let unkept_is = ap (λ (t : Tally). t.unkept) part.counted in (omega (arith, m, below, few), omega (arith, all), omega (arith, unkept, done_is, unkept_is))
 
 -- THE WHOLE RUN
 

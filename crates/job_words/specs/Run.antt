@@ -4,7 +4,7 @@ use Rattle.cabinet.specs.State.{State, IsSound}
 use Rattle.cache_core.specs.Steps.{one_where}
 use Rattle.base.specs.Causes.{RoseBy}
 use Rattle.job_places.specs.declared.place.PlaceEnd.{PlaceEnd}
-use Rattle.job_places.specs.declared.place.PlaceEnd.TheVariants.{Done, Failed}
+use Rattle.job_places.specs.declared.place.PlaceEnd.TheVariants.{Done, Failed, Unkept}
 use Rattle.job_places.specs.declared.place.PlaceFault.{PlaceFault}
 use Rattle.job_places.specs.declared.place.PlaceFault.TheVariants as fault
 use Rattle.job_places.specs.Visits.{forces}
@@ -38,6 +38,7 @@ is_disk fault.Memory = false
 
 abbrev pub failed_by : (PlaceFault → Bool) → PlaceEnd → ℕ
 failed_by which Done = 0
+failed_by which Unkept = 0
 failed_by which (Failed cause) = one_where (which cause)
 
 -- how many places failed by the source

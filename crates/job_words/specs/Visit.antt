@@ -1,5 +1,5 @@
 -- A visit to a place of a job, by a thread that has the cabinet for itself, as the events of its metatile, or the row of its cut.
-use Rattle.std.specs.Prelude.{◌≡◌, Bool, Result, Ok, Err}
+use Rattle.std.specs.Prelude.{◌⊎◌, ◌≡◌, Bool, Result, Ok, Err}
 use Rattle.std.specs.declared.alloc.AllocError.{AllocError}
 use Rattle.cabinet.specs.Commands.{Cuts}
 use Rattle.cabinet.specs.declared.replies.CutReply.{CutReply}
@@ -8,7 +8,7 @@ use Rattle.cache_core.specs.declared.outcome.TileOutcome.{TileOutcome}
 use Rattle.cache_core.specs.declared.outcome.TileOutcome.TheVariants as outcome
 use Rattle.cache_core.specs.Steps.{Stepped, began, ends}
 use Rattle.job_places.specs.declared.place.PlaceEnd.{PlaceEnd}
-use Rattle.job_places.specs.declared.place.PlaceEnd.TheVariants.{Done, Failed}
+use Rattle.job_places.specs.declared.place.PlaceEnd.TheVariants.{Done, Failed, Unkept}
 use Rattle.job_places.specs.declared.place.PlaceFault.TheVariants as fault
 use Rattle.job_places.specs.Ends.{end_of_cut}
 use Rattle.job_forms.specs.Places.{Place, Metatile, Cut}
@@ -32,15 +32,15 @@ refreshed force s m c =
     further c.ending (further c.rendering (began s (first_tile s.catalogue m) force c.asking.ask c.asking.moment c.asking.unread c.asking.bytes))
 
 -- how the outcome of its tile ends the place: a tile that is rendered may be left unstored
-abbrev pub end_of_tile : TileOutcome → PlaceEnd
-end_of_tile (outcome.Tile tile) = Done
-end_of_tile outcome.SourceFailed = Failed fault.Source
-end_of_tile outcome.Spent = Failed fault.Spent
-end_of_tile outcome.NoMemory = Failed fault.Memory
+abbrev pub EndsBy : TileOutcome → PlaceEnd → Type 0
+EndsBy (outcome.Tile tile) e = (e ≡ Done) ⊎ (e ≡ Unkept)
+EndsBy outcome.SourceFailed e = e ≡ Failed fault.Source
+EndsBy outcome.Spent e = e ≡ Failed fault.Spent
+EndsBy outcome.NoMemory e = e ≡ Failed fault.Memory
 
 -- from s a metatile was refreshed to its outcome, in u
 abbrev pub IsRefreshed : Bool → State → MetaKey → Chances → PlaceEnd → State → Type 0
-IsRefreshed force s m c e u = (o : TileOutcome) × (refreshed force s m c ≡ ends u o) × (e ≡ end_of_tile o)
+IsRefreshed force s m c e u = (o : TileOutcome) × (refreshed force s m c ≡ ends u o) × EndsBy o e
 
 -- A CUT
 

@@ -66,7 +66,7 @@ pub fn run_places<C: Keeper, S: Source>(
     let mut tally = Tally::new();
     'visiting: for place in 0..places {
         let end = visit(alloc, cabinet, source, job, place);
-        tally = tally.and(end.is_done());
+        tally = tally.and(&end);
     }
     tally
 }

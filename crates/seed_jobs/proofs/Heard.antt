@@ -5,7 +5,7 @@ use Rattle.std.proofs.lemmas.List.Elements.{All-map, AllWithin-more}
 use Rattle.job_board.specs.declared.standing.HandAccount.{HandAccount}
 use Rattle.job_board.specs.declared.standing.HandEnd.TheVariants.{Open}
 use Rattle.job_board.specs.declared.standing.SheetStanding.{SheetStanding}
-use Rattle.job_board.specs.SheetCalls.{Gathers, HasEnded, ShareOut, claimed_by, done_by, failed_by, seeing}
+use Rattle.job_board.specs.SheetCalls.{Gathers, HasEnded, ShareOut, claimed_by, done_by, failed_by, seeing, unkept_by}
 use Rattle.job_board.specs.Hands.{HasGathered, Sheet, SheetHolding, own, own_of, watching}
 use Rattle.job_board.specs.Standings.{IsSound, Later, LaterAccount, account}
 use Rattle.job_board.proofs.Gathered.{all_places, sees_end, shares_out}
@@ -28,12 +28,14 @@ append_nil [] = refl
 append_nil (x ∷ xs) = ap (λ ys. x ∷ ys) (append_nil xs)
 
 account_itself : (a : HandAccount) → LaterAccount a a
-account_itself a = record { claimed = ([], sym (append_nil a.claimed)); done = omega arith; failed = omega arith; ended = λ met. (refl, refl) }
+account_itself a = record { claimed = ([], sym (append_nil a.claimed)); done = omega arith; unkept = omega arith; unkept_done = omega arith; failed = omega arith; ended = λ met. (refl, refl) }
 
 account_through : (x y z : HandAccount) → LaterAccount x y → LaterAccount y z → LaterAccount x z
 account_through x y z first then = record {
   claimed = (first.claimed.0 ++ then.claimed.0, then.claimed.1 ∙ ap (λ ps. ps ++ then.claimed.0) first.claimed.1 ∙ append_assoc x.claimed first.claimed.0 then.claimed.0);
   done = omega (arith, first.done, then.done);
+  unkept = omega (arith, first.unkept, then.unkept);
+  unkept_done = omega (arith, first.unkept_done, then.unkept_done);
   failed = omega (arith, first.failed, then.failed);
   ended = λ met.
       let one = first.ended met in
@@ -134,10 +136,10 @@ module _ {K S G : Type 0} where
         (shared (subst (λ (ms : List (Member K S G)). AreAll sheet (hands_of (workers_of tells faults ms))) is all))
 
     pub ended_all : (sheet : Sheet) (crew others left : List (Member K S G)) (first then : Member K S G) (watch : SheetHolding) → crew ≡ first ∷ others → left ≡ others
-        → (AreAll sheet (first.hand ∷ hands_of (workers_of tells faults others)) → SeesEnd sheet (done_by (then.hand ∷ hands_of (workers_of tells faults others))) (failed_by (then.hand ∷ hands_of (workers_of tells faults others))) watch)
-        → AreAll sheet (hands_of (workers_of tells faults crew)) → SeesEnd sheet (done_by (hands_of (workers_of tells faults (then ∷ left)))) (failed_by (hands_of (workers_of tells faults (then ∷ left)))) watch
+        → (AreAll sheet (first.hand ∷ hands_of (workers_of tells faults others)) → SeesEnd sheet (done_by (then.hand ∷ hands_of (workers_of tells faults others))) (failed_by (then.hand ∷ hands_of (workers_of tells faults others))) (unkept_by (then.hand ∷ hands_of (workers_of tells faults others))) watch)
+        → AreAll sheet (hands_of (workers_of tells faults crew)) → SeesEnd sheet (done_by (hands_of (workers_of tells faults (then ∷ left)))) (failed_by (hands_of (workers_of tells faults (then ∷ left)))) (unkept_by (hands_of (workers_of tells faults (then ∷ left)))) watch
     ended_all sheet crew others left first then watch is same ended all =
-        subst (λ (ms : List (Member K S G)). SeesEnd sheet (done_by (hands_of (workers_of tells faults (then ∷ ms)))) (failed_by (hands_of (workers_of tells faults (then ∷ ms)))) watch) (sym same)
+        subst (λ (ms : List (Member K S G)). SeesEnd sheet (done_by (hands_of (workers_of tells faults (then ∷ ms)))) (failed_by (hands_of (workers_of tells faults (then ∷ ms)))) (unkept_by (hands_of (workers_of tells faults (then ∷ ms)))) watch) (sym same)
         (ended (subst (λ (ms : List (Member K S G)). AreAll sheet (hands_of (workers_of tells faults ms))) is all))
 
     pub theirs_of : (sheet : Sheet) (crew others : List (Member K S G)) (first : Member K S G) → crew ≡ first ∷ others → All (λ (h : SheetHolding). h.sheet ≡ sheet) (hands_of (workers_of tells faults crew)) → All (λ (h : SheetHolding). h.sheet ≡ sheet) (first.hand ∷ hands_of (workers_of tells faults others))
@@ -182,15 +184,15 @@ module _ (sheet : Sheet) (first then : SheetHolding) (others : List SheetHolding
       (subst (λ (a : HandAccount). a.done + a.failed ≡ length a.claimed) (sym heard.own_is) (all.reported 0 first refl))
   reported_by (suc k) h e = all.reported (suc k) h e
 
-  pub ended_by : (watch : SheetHolding) → watch ≡ watching sheet then.seen → IsSound then.sheet.places then.sheet.hands then.seen → SeesEnd sheet (done_by (then ∷ others)) (failed_by (then ∷ others)) watch
+  pub ended_by : (watch : SheetHolding) → watch ≡ watching sheet then.seen → IsSound then.sheet.places then.sheet.hands then.seen → SeesEnd sheet (done_by (then ∷ others)) (failed_by (then ∷ others)) (unkept_by (then ∷ others)) watch
   ended_by watch is sound =
       let gathered : HasGathered then (then ∷ others) = record { count = all.count ∙ sym (ap (λ (s : Sheet). s.hands) same); each = each_heard } in
       let seen : watch.seen ≡ then.seen = ap (λ (h : SheetHolding). h.seen) is in
-      let end : HasEnded sheet.hands then.seen (done_by (then ∷ others)) (failed_by (then ∷ others)) =
-      subst (λ (s : Sheet). HasEnded s.hands then.seen (done_by (then ∷ others)) (failed_by (then ∷ others))) same (sees_end then (then ∷ others) sound gathered reported_by) in
+      let end : HasEnded sheet.hands then.seen (done_by (then ∷ others)) (failed_by (then ∷ others)) (unkept_by (then ∷ others)) =
+      subst (λ (s : Sheet). HasEnded s.hands then.seen (done_by (then ∷ others)) (failed_by (then ∷ others)) (unkept_by (then ∷ others))) same (sees_end then (then ∷ others) sound gathered reported_by) in
       record {
         is = is ∙ ap (watching sheet) (sym seen);
-        ended = subst (λ (s : SheetStanding). HasEnded sheet.hands s (done_by (then ∷ others)) (failed_by (then ∷ others))) (sym seen) end;
+        ended = subst (λ (s : SheetStanding). HasEnded sheet.hands s (done_by (then ∷ others)) (failed_by (then ∷ others)) (unkept_by (then ∷ others))) (sym seen) end;
       }
 
   pub shared_by : IsSound then.sheet.places then.sheet.hands then.seen → AreShared sheet (then ∷ others) (claimed_by (then ∷ others))

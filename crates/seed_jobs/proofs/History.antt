@@ -5,7 +5,7 @@ use Rattle.std.proofs.lemmas.List.{append-nil, append_assoc}
 use Rattle.std.proofs.lemmas.Option.{none-some, slice_get-get_or}
 use Rattle.catalog.specs.declared.catalogue.Catalogue.{Catalogue}
 use Rattle.job_places.specs.declared.tally.Tally.{Tally}
-use Rattle.job_board.specs.declared.progress.Progress.{Progress}
+use Rattle.job_board.specs.declared.status.JobStatus.{JobStatus}
 use Rattle.job_board.specs.SheetCalls.{HasEnded}
 use Rattle.job_board.specs.Hands.{Sheet, SheetHolding}
 use Rattle.job_forms.specs.declared.job.Job.{Job}
@@ -114,7 +114,7 @@ no_fewer b a command.Next r may = taken may.0 may.2
     taken (Some p) row = omega (arith, ap (λ (x : Shown). length x.watches) row.1)
 no_fewer b a (command.Look n) r may = looked may.0 may.2
   where
-    looked : (p : Option Progress) → Looks b n p a → length b.watches ≤ length a.watches
+    looked : (p : Option JobStatus) → Looks b n p a → length b.watches ≤ length a.watches
     looked None row = omega (arith, ap (λ (x : Shown). length x.watches) row.1)
     looked (Some p) row = omega (arith, ap (λ (x : Shown). length x.watches) row.is, length-set b.watches (n - 1) row.left)
 no_fewer b a (command.Stop n) r may = stopped may.0 may.2
@@ -200,21 +200,21 @@ finds_it before after p job false numbers one =
 
 -- the job that was run, and the turn that told the board of its end
 pub run_out : (c : Catalogue) (p : Posted) (before after : BoardHolding) (idle_before idle_after : List Idle) (job : WatchedJob) (is : Bool) (sheet : Sheet) → sheet ≡ p.sheet.value
-    → ((r : IsJobRunByCrew c p.job sheet p.hands.items idle_before idle_after) × SeesEnd sheet (total_of r.tallies).done (total_of r.tallies).failed job.watch) → HasNumber before.book.front p → MakesOne before after (command.Finish p.number job) (reply.Finish is) → HasRunOut c p before after idle_before idle_after
+    → ((r : IsJobRunByCrew c p.job sheet p.hands.items idle_before idle_after) × SeesEnd sheet (total_of r.tallies).done (total_of r.tallies).failed (total_of r.tallies).unkept job.watch) → HasNumber before.book.front p → MakesOne before after (command.Finish p.number job) (reply.Finish is) → HasRunOut c p before after idle_before idle_after
 run_out c p before after idle_before idle_after job is sheet same run numbers one =
-    let there : (r : IsJobRunByCrew c p.job p.sheet.value p.hands.items idle_before idle_after) × SeesEnd p.sheet.value (total_of r.tallies).done (total_of r.tallies).failed job.watch =
-    subst (λ (s : Sheet). (r : IsJobRunByCrew c p.job s p.hands.items idle_before idle_after) × SeesEnd s (total_of r.tallies).done (total_of r.tallies).failed job.watch) same run in
+    let there : (r : IsJobRunByCrew c p.job p.sheet.value p.hands.items idle_before idle_after) × SeesEnd p.sheet.value (total_of r.tallies).done (total_of r.tallies).failed (total_of r.tallies).unkept job.watch =
+    subst (λ (s : Sheet). (r : IsJobRunByCrew c p.job s p.hands.items idle_before idle_after) × SeesEnd s (total_of r.tallies).done (total_of r.tallies).failed (total_of r.tallies).unkept job.watch) same run in
     let r = there.0 in
     let sees = there.1 in
     let total = total_of r.tallies in
     let found : one.turn.note.reply ≡ reply.Finish true = one.reply_is ∙ ap reply.Finish (finds_it before after p job is numbers one) in
     let of_sheet : job.watch.sheet ≡ p.sheet.value = ap (λ (h : SheetHolding). h.sheet) sees.is in
-    let ended : HasEnded job.watch.sheet.hands job.watch.seen total.done total.failed = subst (λ (s : Sheet). HasEnded s.hands job.watch.seen total.done total.failed) (sym of_sheet) sees.ended in
+    let ended : HasEnded job.watch.sheet.hands job.watch.seen total.done total.failed total.unkept = subst (λ (s : Sheet). HasEnded s.hands job.watch.seen total.done total.failed total.unkept) (sym of_sheet) sees.ended in
     let over = one.may.over in
     record {
       ending = one.turn ∷ [];
       makes = made_one before after one.turn one.is one.may;
-      runs = inl (r, one.turn, refl, record { job = job; does = one.command_is; sees = sees; found = found; over = over.ends p.number total.done total.failed job one.command_is found ended });
+      runs = inl (r, one.turn, refl, record { job = job; does = one.command_is; sees = sees; found = found; over = over.ends p.number total.done total.failed total.unkept job one.command_is found ended });
     }
 
 -- a job that was left

@@ -5,10 +5,10 @@ use Rattle.std.proofs.lemmas.List.Sums.{sum_by-cons}
 use Rattle.atomic_table.specs.Seated.{TableId}
 use Rattle.catalog.specs.declared.catalogue.Catalogue.{Catalogue}
 use Rattle.job_places.specs.declared.tally.Tally.{Tally}
-use Rattle.job_places.specs.Ends.{is_done}
+use Rattle.job_places.specs.Ends.{is_done, is_unkept}
 use Rattle.job_board.specs.declared.standing.HandAccount.{HandAccount}
 use Rattle.job_board.specs.declared.standing.HandEnd.TheVariants.{Open}
-use Rattle.job_board.specs.SheetCalls.{claimed_by, done_by, failed_by}
+use Rattle.job_board.specs.SheetCalls.{claimed_by, done_by, failed_by, unkept_by}
 use Rattle.job_board.specs.Hands.{AreFresh, Sheet, SheetHolding, fresh_holding, own}
 use Rattle.job_board.specs.Standings.{fresh}
 use Rattle.job_forms.specs.declared.job.Job.{Job}
@@ -18,7 +18,7 @@ use Rattle.seed_jobs.specs.Totals.{HasFew}
 use Rattle.seed_jobs.specs.Workers.{JobWorker, MayWork}
 use Rattle.seed_jobs.specs.Works.{Works}
 use Rattle.seed_jobs.specs.Visits.{visited}
-use Rattle.seed_jobs.proofs.Working.{as_many, passing_counted}
+use Rattle.seed_jobs.proofs.Working.{as_many, passing_counted, unkept_few}
 
 some_same : {X : Type 0} {a b : X} → Some a ≡ Some b → a ≡ b
 some_same e = cc
@@ -79,7 +79,7 @@ module _ (c : Catalogue) (job : Job) where
         let places = ap (λ (s : Sheet). s.places) may.of_sheet in
         let within = works.within in
         let all = works.adds_up in
-        record { places = omega (arith, within, places, most); done = omega (arith, within, places, most, all); failed = omega (arith, within, places, most, all) }
+        record { places = omega (arith, within, places, most); done = omega (arith, within, places, most, all); failed = omega (arith, within, places, most, all); unkept = omega (arith, within, places, most, all, unkept_few t works.worked.visits works.worked.counts) }
 
     -- each tally counts no more than all places
     pub few : (before after : List JobWorker) (ts : List Tally) → sheet.places ≤ 10000000 → HaveWorked c job before after ts → All (MayWork table c sheet) before → All HasFew ts
@@ -108,7 +108,7 @@ module _ (c : Catalogue) (job : Job) where
     reported : own was ≡ fresh → (own h).done + (own h).failed ≡ length (own h).claimed
 
   -- what a hand that had claimed nothing has claimed, and reported, is its tally
-  counted : (b a : JobWorker) (t : Tally) → Works c job b a t → own b.hand ≡ fresh → (length (own a.hand).claimed ≡ t.places) × ((own a.hand).done ≡ t.done) × ((own a.hand).failed ≡ t.failed)
+  counted : (b a : JobWorker) (t : Tally) → Works c job b a t → own b.hand ≡ fresh → (length (own a.hand).claimed ≡ t.places) × ((own a.hand).done ≡ t.done) × ((own a.hand).failed ≡ t.failed) × ((own a.hand).unkept ≡ t.unkept)
   counted b a t works none =
       let vs = works.worked.visits in
       let is = works.worked.gains.account in
@@ -116,6 +116,7 @@ module _ (c : Catalogue) (job : Job) where
         ap (λ (x : HandAccount). length x.claimed) is ∙ ap (λ (x : HandAccount). length (x.claimed ++ visited vs)) none ∙ sym (as_many vs) ∙ sym (ap (λ (x : Tally). x.places) counts),
         omega (arith, ap (λ (x : HandAccount). x.done) is, ap (λ (x : HandAccount). x.done) none, ap (λ (x : Tally). x.done) counts, passing_counted is_done vs),
         omega (arith, ap (λ (x : HandAccount). x.failed) is, ap (λ (x : HandAccount). x.failed) none, ap (λ (x : Tally). x.failed) counts, passing_counted (λ e. not (is_done e)) vs),
+        omega (arith, ap (λ (x : HandAccount). x.unkept) is, ap (λ (x : HandAccount). x.unkept) none, ap (λ (x : Tally). x.unkept) counts, passing_counted is_unkept vs),
       )
 
   reported_one : (b a : JobWorker) (t : Tally) → Works c job b a t → own b.hand ≡ fresh → (own a.hand).done + (own a.hand).failed ≡ length (own a.hand).claimed
@@ -195,13 +196,17 @@ module _ (c : Catalogue) (job : Job) where
       failed_sum : failed_by (hands_of after) ≡ (total_of ts).failed
       failed_sum = sum_of (λ (x : HandAccount). x.failed) (λ (x : Tally). x.failed) (λ b a t w none. (counted b a t w none).2) before after ts works none_yet
 
+      unkept_sum : unkept_by (hands_of after) ≡ (total_of ts).unkept
+      unkept_sum = sum_of (λ (x : HandAccount). x.unkept) (λ (x : Tally). x.unkept) (λ b a t w none. (counted b a t w none).3) before after ts works none_yet
+
     pub shared_at_last : (before after : List JobWorker) (ts : List Tally) (total : Tally) → HaveWorked c job before after ts → AreFresh sheet (hands_of before) → AreShared sheet (hands_of after) (claimed_by (hands_of after)) → total ≡ total_of ts → AreShared sheet (hands_of after) total.places
     shared_at_last before after ts total works all shared is =
         subst (λ (n : ℕ). AreShared sheet (hands_of after) n) (claimed_sum before after ts works all ∙ sym (ap (λ (x : Tally). x.places) is)) shared
 
     pub ended_at_last : (before after : List JobWorker) (ts : List Tally) (total : Tally) (watch : Option SheetHolding) → HaveWorked c job before after ts → AreFresh sheet (hands_of before)
-        → IfSome watch (λ (w : SheetHolding). SeesEnd sheet (done_by (hands_of after)) (failed_by (hands_of after)) w) → total ≡ total_of ts → IfSome watch (λ (w : SheetHolding). SeesEnd sheet total.done total.failed w)
+        → IfSome watch (λ (w : SheetHolding). SeesEnd sheet (done_by (hands_of after)) (failed_by (hands_of after)) (unkept_by (hands_of after)) w) → total ≡ total_of ts → IfSome watch (λ (w : SheetHolding). SeesEnd sheet total.done total.failed total.unkept w)
     ended_at_last before after ts total None works all ended is = ended
     ended_at_last before after ts total (Some w) works all ended is =
-        subst (λ (n : ℕ). SeesEnd sheet total.done n w) (failed_sum before after ts works all ∙ sym (ap (λ (x : Tally). x.failed) is))
-        (subst (λ (n : ℕ). SeesEnd sheet n (failed_by (hands_of after)) w) (done_sum before after ts works all ∙ sym (ap (λ (x : Tally). x.done) is)) ended)
+        subst (λ (n : ℕ). SeesEnd sheet total.done total.failed n w) (unkept_sum before after ts works all ∙ sym (ap (λ (x : Tally). x.unkept) is))
+        (subst (λ (n : ℕ). SeesEnd sheet total.done n (unkept_by (hands_of after)) w) (failed_sum before after ts works all ∙ sym (ap (λ (x : Tally). x.failed) is))
+        (subst (λ (n : ℕ). SeesEnd sheet n (failed_by (hands_of after)) (unkept_by (hands_of after)) w) (done_sum before after ts works all ∙ sym (ap (λ (x : Tally). x.done) is)) ended))

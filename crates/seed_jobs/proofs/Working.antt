@@ -7,11 +7,12 @@ use Rattle.catalog.specs.declared.catalogue.Catalogue.{Catalogue}
 use Rattle.atomic_table.specs.Seated.{TableId}
 use Rattle.cache_hall.specs.Turned.{HallPass, IsPassOf}
 use Rattle.job_places.specs.declared.place.PlaceEnd.{PlaceEnd}
+use Rattle.job_places.specs.declared.place.PlaceEnd.TheVariants.{Done, Failed, Unkept}
 use Rattle.job_places.specs.declared.tally.Tally.{Tally}
-use Rattle.job_places.specs.Ends.{is_done}
+use Rattle.job_places.specs.Ends.{is_done, is_unkept}
 use Rattle.job_places.specs.Tallies.{one_more, tally_of}
 use Rattle.job_places.specs.Visits.{Visit, visit_of}
-use Rattle.job_places.proofs.Counting.{adds_up, one_counted, tally_more}
+use Rattle.job_places.proofs.Counting.{adds_up, one_counted, tally_more, unkept_within}
 use Rattle.job_board.specs.declared.standing.HandAccount.{HandAccount}
 use Rattle.job_board.specs.declared.standing.HandEnd.{HandEnd}
 use Rattle.job_board.specs.declared.standing.HandEnd.TheVariants.{AllClaimed, Cancelled, Open}
@@ -24,7 +25,7 @@ use Rattle.truncation_list.specs.declared.book.FrontedBook.{FrontedBook}
 use Rattle.turnstile.specs.Passes.{seen_by}
 use Rattle.seed_jobs.specs.Reports.{Reports, place_if, reporting}
 use Rattle.seed_jobs.specs.Visited.{HasVisited}
-use Rattle.seed_jobs.specs.Visits.{AreVisits, IsPassVisit, done_of, failed_of, turns_of, visited}
+use Rattle.seed_jobs.specs.Visits.{AreVisits, IsPassVisit, done_of, failed_of, turns_of, unkept_of, visited}
 use Rattle.seed_jobs.specs.Workers.{JobWorker, MayWork}
 use Rattle.seed_jobs.specs.Works.{HasWorkedAtJob, Works, gaining_all}
 
@@ -66,6 +67,9 @@ done_more = passing_more (λ v. is_done v.end)
 failed_more : (vs : List Visit) (v : Visit) → failed_of (vs ++ v ∷ []) ≡ failed_of vs ++ place_if (not (is_done v.end)) v.place
 failed_more = passing_more (λ v. not (is_done v.end))
 
+unkept_more : (vs : List Visit) (v : Visit) → unkept_of (vs ++ v ∷ []) ≡ unkept_of vs ++ place_if (is_unkept v.end) v.place
+unkept_more = passing_more (λ v. is_unkept v.end)
+
 visits_more : (c : Catalogue) (told : Bool) (job : Job) (seen : FrontedBook) (faults : ℕ) (vs : List Visit) (sees : FrontedBook) (after : ℕ) (v : Visit) → AreVisits c told job seen faults vs sees after → v.seen ≡ sees → v.faults_before ≡ after → IsPassVisit c told job v
     → AreVisits c told job seen faults (vs ++ v ∷ []) v.sees v.faults_after
 visits_more c told job seen faults [] sees after v are saw counted is = (saw ∙ are.0, counted ∙ are.1, is, (refl, refl))
@@ -92,30 +96,42 @@ passing_counted test (x ∷ vs) =
     let counted = sum_by-cons (λ (e : PlaceEnd). cond (test e) 1 0) x.end (ends_of vs) in
     omega (arith, one, split, counted, place_counted (test x.end) x.place, passing_counted test vs)
 
-same_account : {cs ds : List ℕ} {d e f g : ℕ} {x y : HandEnd} → cs ≡ ds → d ≡ e → f ≡ g → x ≡ y → ◌≡◌ {A = HandAccount} (record { claimed = cs; done = d; failed = f; end = x }) (record { claimed = ds; done = e; failed = g; end = y })
-same_account a b c d = cc
+same_account : {cs ds : List ℕ} {d e f g u v : ℕ} {x y : HandEnd} → cs ≡ ds → d ≡ e → u ≡ v → f ≡ g → x ≡ y → ◌≡◌ {A = HandAccount} (record { claimed = cs; done = d; unkept = u; failed = f; end = x }) (record { claimed = ds; done = e; unkept = v; failed = g; end = y })
+same_account a b c d e = cc
 
-account_step : (b : Bool) (vis don fai : List ℕ) (place : ℕ) (a : HandAccount) → reporting b (gaining place (record { claimed = a.claimed ++ vis; done = a.done + length don; failed = a.failed + length fai; end = Open }))
-    ≡ record { claimed = a.claimed ++ (vis ++ place ∷ []); done = a.done + length (don ++ place_if b place); failed = a.failed + length (fai ++ place_if (not b) place); end = Open }
-account_step true vis don fai place a =
-    same_account (append_assoc a.claimed vis (place ∷ [])) (omega (arith, length-append don (place ∷ []))) (ap (λ (ps : List ℕ). a.failed + length ps) (sym (append_nil fai))) refl
-account_step false vis don fai place a =
-    same_account (append_assoc a.claimed vis (place ∷ [])) (ap (λ (ps : List ℕ). a.done + length ps) (sym (append_nil don))) (omega (arith, length-append fai (place ∷ []))) refl
+-- as many places as before, and one more
+as_before : (n : ℕ) (ps : List ℕ) → n + length ps ≡ n + length (ps ++ [])
+as_before n ps = ap (λ (qs : List ℕ). n + length qs) (sym (append_nil ps))
+
+and_one : (n : ℕ) (ps : List ℕ) (place : ℕ) → n + length ps + 1 ≡ n + length (ps ++ place ∷ [])
+and_one n ps place = omega (arith, length-append ps (place ∷ []))
+
+account_step : (end : PlaceEnd) (vis don unk fai : List ℕ) (place : ℕ) (a : HandAccount)
+    → reporting end (gaining place (record { claimed = a.claimed ++ vis; done = a.done + length don; unkept = a.unkept + length unk; failed = a.failed + length fai; end = Open }))
+    ≡ record { claimed = a.claimed ++ (vis ++ place ∷ []); done = a.done + length (don ++ place_if (is_done end) place); unkept = a.unkept + length (unk ++ place_if (is_unkept end) place); failed = a.failed + length (fai ++ place_if (not (is_done end)) place); end = Open }
+account_step Done vis don unk fai place a = same_account (append_assoc a.claimed vis (place ∷ [])) (and_one a.done don place) (as_before a.unkept unk) (as_before a.failed fai) refl
+account_step Unkept vis don unk fai place a = same_account (append_assoc a.claimed vis (place ∷ [])) (and_one a.done don place) (and_one a.unkept unk place) (as_before a.failed fai) refl
+account_step (Failed cause) vis don unk fai place a = same_account (append_assoc a.claimed vis (place ∷ [])) (as_before a.done don) (as_before a.unkept unk) (and_one a.failed fai place) refl
 
 ends_more : (vs : List Visit) (v : Visit) → tally_of (ends_of vs ++ v.end ∷ []) ≡ tally_of (ends_of (vs ++ v ∷ []))
 ends_more vs v = ap tally_of (sym (map-append (λ (x : Visit). x.end) vs (v ∷ [])))
 
-account_more : (vs : List Visit) (v : Visit) (a : HandAccount) → reporting (is_done v.end) (gaining v.place (gaining_all vs Open a)) ≡ gaining_all (vs ++ v ∷ []) Open a
+-- the places of a tally that could not be kept are among those done
+pub unkept_few : (tally : Tally) (vs : List Visit) → tally ≡ tally_of (ends_of vs) → tally.unkept ≤ tally.done
+unkept_few tally vs is = omega (arith, ap (λ (t : Tally). t.unkept) is, ap (λ (t : Tally). t.done) is, unkept_within (ends_of vs))
+
+account_more : (vs : List Visit) (v : Visit) (a : HandAccount) → reporting v.end (gaining v.place (gaining_all vs Open a)) ≡ gaining_all (vs ++ v ∷ []) Open a
 account_more vs v a =
-    account_step (is_done v.end) (visited vs) (done_of vs) (failed_of vs) v.place a
-    ∙ same_account (ap (λ ps. a.claimed ++ ps) (sym (visited_more vs v))) (ap (λ (ps : List ℕ). a.done + length ps) (sym (done_more vs v))) (ap (λ (ps : List ℕ). a.failed + length ps) (sym (failed_more vs v))) refl
+    account_step v.end (visited vs) (done_of vs) (unkept_of vs) (failed_of vs) v.place a
+    ∙ same_account (ap (λ ps. a.claimed ++ ps) (sym (visited_more vs v))) (ap (λ (ps : List ℕ). a.done + length ps) (sym (done_more vs v))) (ap (λ (ps : List ℕ). a.unkept + length ps) (sym (unkept_more vs v))) (ap (λ (ps : List ℕ). a.failed + length ps) (sym (failed_more vs v))) refl
 
 account_none : (a : HandAccount) → a.end ≡ Open → a ≡ gaining_all [] Open a
-account_none a e = same_account (sym (append_nil a.claimed)) (omega arith) (omega arith) e
+account_none a e = same_account (sym (append_nil a.claimed)) (omega arith) (omega arith) (omega arith) e
 
-same_end : (b : Bool) (a : HandAccount) → (reporting b a).end ≡ a.end
-same_end true a = refl
-same_end false a = refl
+same_end : (end : PlaceEnd) (a : HandAccount) → (reporting end a).end ≡ a.end
+same_end Done a = refl
+same_end Unkept a = refl
+same_end (Failed cause) a = refl
 
 not_open : (places : ℕ) (found : SheetStanding) (end : HandEnd) → Refuses places found end → end ≢ Open
 not_open places found Open why is = why
@@ -125,7 +141,7 @@ not_open places found Cancelled why is = cc
 -- SO FAR
 
 -- nothing yet
-pub worked_none : (c : Catalogue) (job : Job) (w : JobWorker) → (own w.hand).end ≡ Open → HasWorkedAtJob c job w w (record { places = 0; done = 0; failed = 0 }) Open
+pub worked_none : (c : Catalogue) (job : Job) (w : JobWorker) → (own w.hand).end ≡ Open → HasWorkedAtJob c job w w (record { places = 0; done = 0; failed = 0; unkept = 0 }) Open
 worked_none c job w e = record {
   visits = [];
   made = ap (λ ms. record { table = w.pass.table; charter = w.pass.charter; told = w.pass.told; book = w.pass.book; made = ms }) (sym (append_nil w.pass.made));
@@ -141,7 +157,7 @@ pub record IsAtWork (table : TableId) (c : Catalogue) (job : Job) (sheet : Sheet
   pub so_far : HasWorkedAtJob c job start now tally Open
   pub within : tally.places ≤ start.hand.sheet.places
 
-pub at_first : (table : TableId) (c : Catalogue) (job : Job) (sheet : Sheet) (w : JobWorker) → MayWork table c sheet w → IsAtWork table c job sheet w w (record { places = 0; done = 0; failed = 0 })
+pub at_first : (table : TableId) (c : Catalogue) (job : Job) (sheet : Sheet) (w : JobWorker) → MayWork table c sheet w → IsAtWork table c job sheet w w (record { places = 0; done = 0; failed = 0; unkept = 0 })
 at_first table c job sheet w may = record { may = may; so_far = worked_none c job w may.may_claim.1; within = omega arith }
 
 module _ {table : TableId} {c : Catalogue} {job : Job} {sheet : Sheet} {start now : JobWorker} {tally : Tally} (w : IsAtWork table c job sheet start now tally) where
@@ -152,6 +168,9 @@ module _ {table : TableId} {c : Catalogue} {job : Job} {sheet : Sheet} {start no
       let failed = ap (λ (x : Tally). x.failed) w.so_far.counts in
       let all = adds_up (ends_of w.so_far.visits) in
       omega (arith, places, done, failed, all)
+
+  unkept_counted : tally.unkept ≤ tally.done
+  unkept_counted = unkept_few tally w.so_far.visits w.so_far.counts
 
   -- AT THE END
   pub works : (t : SheetHolding) → MeetsNone now.hand t → Works c job start (record { hand = t; pass = now.pass; source = now.source; faults = now.faults }) tally
@@ -196,11 +215,11 @@ module _ {table : TableId} {c : Catalogue} {job : Job} {sheet : Sheet} {start no
         let places = ap (λ (s : Sheet). s.places) (same_sheet ∙ w.may.of_sheet) in
         omega (arith, counted, as_ends, mine, before, split, one, most, places)
 
-    pub countable : (places : ℕ) → length (own claimed).claimed ≤ claimed.sheet.places → sheet.places ≡ places → places ≤ 10000000 → (tally.places < 10000000) × (tally.done + tally.failed ≤ tally.places)
-    countable places claims is most = let left = room claims in (omega (arith, left, is, most), omega (arith, counts_add_up))
+    pub countable : (places : ℕ) → length (own claimed).claimed ≤ claimed.sheet.places → sheet.places ≡ places → places ≤ 10000000 → (tally.places < 10000000) × (tally.done + tally.failed ≤ tally.places) × (tally.unkept ≤ tally.done)
+    countable places claims is most = let left = room claims in (omega (arith, left, is, most), omega (arith, counts_add_up), unkept_counted)
 
     module _ {reported : SheetHolding} {pass : HallPass} {after : ℕ} {end : PlaceEnd} (source : Option ℕ) (went : HasVisited c job place now.faults after now.pass pass end) (told : source ≡ now.source)
-        (of : IsPassOf table c pass) (reports : Reports claimed reported place (is_done end)) where
+        (of : IsPassOf table c pass) (reports : Reports claimed reported place end) where
       abbrev the_visit : Visit
       the_visit = visit_of place now.pass.book pass.book now.faults after went.gained end
 
@@ -210,7 +229,7 @@ module _ {table : TableId} {c : Catalogue} {job : Job} {sheet : Sheet} {start no
       is_visit : IsPassVisit c start.pass.told job the_visit
       is_visit = subst (λ (t : Bool). IsPassVisit c t job the_visit) (ap (λ (p : HallPass). p.told) w.so_far.made) went.visit
 
-      worked_more : HasWorkedAtJob c job start then_is (one_more (is_done end) tally) Open
+      worked_more : HasWorkedAtJob c job start then_is (one_more end tally) Open
       worked_more =
           let vs = w.so_far.visits in
           let gains = w.so_far.gains in
@@ -222,25 +241,25 @@ module _ {table : TableId} {c : Catalogue} {job : Job} {sheet : Sheet} {start no
             gains = record {
               same_sheet = reports.same_sheet ∙ same_sheet ∙ gains.same_sheet;
               same_number = reports.same_number ∙ same_number ∙ gains.same_number;
-              account = reports.account ∙ ap (reporting (is_done end)) (gained.own_is ∙ ap (gaining place) gains.account) ∙ account_more vs the_visit (own start.hand);
+              account = reports.account ∙ ap (reporting end) (gained.own_is ∙ ap (gaining place) gains.account) ∙ account_more vs the_visit (own start.hand);
               done = reports.done ∙ ap (λ ps. ps ++ place_if (is_done end) place) (ap (λ (h : SheetHolding). h.done) gained.is ∙ gains.done) ∙ append_assoc start.hand.done (done_of vs) (place_if (is_done end) place) ∙ ap (λ ps. start.hand.done ++ ps) (sym (done_more vs the_visit));
               failed = reports.failed ∙ ap (λ ps. ps ++ place_if (not (is_done end)) place) (ap (λ (h : SheetHolding). h.failed) gained.is ∙ gains.failed) ∙ append_assoc start.hand.failed (failed_of vs) (place_if (not (is_done end)) place) ∙ ap (λ ps. start.hand.failed ++ ps) (sym (failed_more vs the_visit));
             };
-            counts = ap (one_more (is_done end)) w.so_far.counts ∙ tally_more (ends_of vs) end ∙ ends_more vs the_visit;
+            counts = ap (one_more end) w.so_far.counts ∙ tally_more (ends_of vs) end ∙ ends_more vs the_visit;
             same_source = told ∙ w.so_far.same_source;
           }
 
-      pub goes_on : (next : Tally) → length (own claimed).claimed ≤ claimed.sheet.places → next ≡ one_more (is_done end) tally → IsAtWork table c job sheet start then_is next
+      pub goes_on : (next : Tally) → length (own claimed).claimed ≤ claimed.sheet.places → next ≡ one_more end tally → IsAtWork table c job sheet start then_is next
       goes_on next most is = record {
         may = record {
           of_hall = of;
           of_sheet = reports.same_sheet ∙ same_sheet ∙ w.may.of_sheet;
-          may_claim = ((w.may.may_claim.0.0, reports.same_number ∙ same_number ∙ w.may.may_claim.0.1), ap (λ (a : HandAccount). a.end) (reports.account ∙ ap (reporting (is_done end)) gained.own_is) ∙ same_end (is_done end) (gaining place (own now.hand)) ∙ w.may.may_claim.1);
+          may_claim = ((w.may.may_claim.0.0, reports.same_number ∙ same_number ∙ w.may.may_claim.0.1), ap (λ (a : HandAccount). a.end) (reports.account ∙ ap (reporting end) gained.own_is) ∙ same_end end (gaining place (own now.hand)) ∙ w.may.may_claim.1);
           source = λ e. told ∙ w.may.source (ap (λ (p : HallPass). p.told) (sym went.is) ∙ e);
         };
         so_far = subst (λ (t : Tally). HasWorkedAtJob c job start then_is t Open) (sym is) worked_more;
         within =
-            let one = one_counted (is_done end) tally in
+            let one = one_counted end tally in
             let counted = ap (λ (t : Tally). t.places) is in
             let here = ap (λ (s : Sheet). s.places) w.may.of_sheet in
             let there = ap (λ (s : Sheet). s.places) w.so_far.gains.same_sheet in

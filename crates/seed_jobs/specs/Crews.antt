@@ -20,7 +20,7 @@ HaveWorked c job (b ∷ before) (a ∷ after) [] = ⊥
 
 -- the counts of all together
 abbrev pub total_of : List Tally → Tally
-total_of ts = record { places = sum_by (λ (t : Tally). t.places) ts; done = sum_by (λ (t : Tally). t.done) ts; failed = sum_by (λ (t : Tally). t.failed) ts }
+total_of ts = record { places = sum_by (λ (t : Tally). t.places) ts; done = sum_by (λ (t : Tally). t.done) ts; failed = sum_by (λ (t : Tally). t.failed) ts; unkept = sum_by (λ (t : Tally). t.unkept) ts }
 
 abbrev pub hands_of : List JobWorker → List SheetHolding
 hands_of ws = map (λ w. w.hand) ws
@@ -32,8 +32,8 @@ pub record AreShared (sheet : Sheet) (hands : List SheetHolding) (claimed : ℕ)
   pub shared : ShareOut sheet.places hands
   pub all : (h : SheetHolding) → Contains hands h → (own h).end ≡ AllClaimed → claimed ≡ sheet.places
 
--- a watch of the sheet that has seen the end of the job: each hand has met None and reported all that it claimed, so many places done, and
--- so many failed
-pub record SeesEnd (sheet : Sheet) (done failed : ℕ) (watch : SheetHolding) : Type 0 where
+-- a watch of the sheet that has seen the end of the job: each hand has met None and reported all that it claimed, so many places done, so
+-- many failed, and so many not kept
+pub record SeesEnd (sheet : Sheet) (done failed unkept : ℕ) (watch : SheetHolding) : Type 0 where
   pub is : watch ≡ watching sheet watch.seen
-  pub ended : HasEnded sheet.hands watch.seen done failed
+  pub ended : HasEnded sheet.hands watch.seen done failed unkept

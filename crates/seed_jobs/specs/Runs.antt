@@ -41,13 +41,13 @@ pub record IsJobRunByCrew (c : Catalogue) (job : Job) (sheet : Sheet) (hands : L
   pub shared : AreShared sheet (hands_of crew_after) (total_of tallies).places
 
 -- The board was told of the end of this job, in a turn that found it there, by a watch of its sheet which has seen the end: so many places
--- done, and so many failed. From then on it is over, with these numbers
+-- done, so many failed, and so many not kept. From then on it is over, with these numbers
 pub record IsToldOfEnd (p : Posted) (total : Tally) (turn : Made Note) : Type 0 where
   pub job : WatchedJob
   pub does : turn.note.command ≡ command.Finish p.number job
-  pub sees : SeesEnd p.sheet.value total.done total.failed job.watch
+  pub sees : SeesEnd p.sheet.value total.done total.failed total.unkept job.watch
   pub found : turn.note.reply ≡ reply.Finish true
-  pub over : IsOver turn.note.after p.number total.done total.failed
+  pub over : IsOver turn.note.after p.number total.done total.failed total.unkept
 
 -- a job that can be run was run, and one turn told the board of its end, with all that its crew came to; any other was left
 abbrev pub Runs : Catalogue → Posted → List (Made Note) → List Idle → List Idle → Type 0

@@ -8,3 +8,4 @@ pub record HasFew (t : Tally) : Type 0 where
   pub places : t.places ≤ 10000000
   pub done : t.done ≤ 10000000
   pub failed : t.failed ≤ 10000000
+  pub unkept : t.unkept ≤ 10000000

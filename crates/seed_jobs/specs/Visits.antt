@@ -3,7 +3,7 @@ use Rattle.std.specs.Prelude.{ℕ, ◌≡◌, Bool, true, not, List, [], ◌∷�
 use Rattle.cabinet_chest.specs.declared.shown.Note.{Note}
 use Rattle.cache_access.specs.Turned.{AreTurns}
 use Rattle.catalog.specs.declared.catalogue.Catalogue.{Catalogue}
-use Rattle.job_places.specs.Ends.{is_done}
+use Rattle.job_places.specs.Ends.{is_done, is_unkept}
 use Rattle.job_places.specs.Visits.{IsVisit, Visit}
 use Rattle.job_forms.specs.declared.job.Job.{Job}
 use Rattle.truncation_list.specs.declared.book.FrontedBook.{FrontedBook}
@@ -25,7 +25,7 @@ AreVisits c told job seen faults (v ∷ vs) sees after = (v.seen ≡ seen) × (v
 abbrev pub turns_of : List Visit → List (Made Note)
 turns_of vs = flat_map (λ v. v.gained) vs
 
--- the places, those that are done, and those that failed
+-- the places, those that are done, those that failed, and those of the done that could not be kept
 abbrev pub visited : List Visit → List ℕ
 visited vs = map (λ v. v.place) vs
 
@@ -34,3 +34,6 @@ done_of vs = visited (filter (λ v. is_done v.end) vs)
 
 abbrev pub failed_of : List Visit → List ℕ
 failed_of vs = visited (filter (λ v. not (is_done v.end)) vs)
+
+abbrev pub unkept_of : List Visit → List ℕ
+unkept_of vs = visited (filter (λ v. is_unkept v.end) vs)

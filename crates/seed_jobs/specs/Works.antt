@@ -10,12 +10,12 @@ use Rattle.job_board.specs.declared.standing.HandEnd.TheVariants.{Open}
 use Rattle.job_board.specs.Hands.{SheetHolding, own}
 use Rattle.job_forms.specs.declared.job.Job.{Job}
 use Rattle.turnstile.specs.Passes.{seen_by}
-use Rattle.seed_jobs.specs.Visits.{AreVisits, done_of, failed_of, turns_of, visited}
+use Rattle.seed_jobs.specs.Visits.{AreVisits, done_of, failed_of, turns_of, unkept_of, visited}
 use Rattle.seed_jobs.specs.Workers.{JobWorker}
 
 -- an account that gained these visits and then stands so
 abbrev pub gaining_all : List Visit → HandEnd → HandAccount → HandAccount
-gaining_all vs end a = record { claimed = a.claimed ++ visited vs; done = a.done + length (done_of vs); failed = a.failed + length (failed_of vs); end = end }
+gaining_all vs end a = record { claimed = a.claimed ++ visited vs; done = a.done + length (done_of vs); unkept = a.unkept + length (unkept_of vs); failed = a.failed + length (failed_of vs); end = end }
 
 -- the hand claimed the places of these visits, in order, and reported each as it counts
 pub record HandGains (before after : SheetHolding) (vs : List Visit) (end : HandEnd) : Type 0 where

@@ -118,7 +118,7 @@ pub fn run_seed<R: Threads + Wait + Sync, K: Keeper + Send, S: Source + Send, G:
     ensures shared { AreFresh sheet.now (hands_of (workers_of S.told S.faults crew.old))
         → AreShared sheet.now (hands_of (workers_of S.told S.faults crew.new)) result.total.places }
     ensures ended { AreFresh sheet.now (hands_of (workers_of S.told S.faults crew.old))
-        → IfSome result.watch (λ w. SeesEnd sheet.now result.total.done result.total.failed w) }
+        → IfSome result.watch (λ w. SeesEnd sheet.now result.total.done result.total.failed result.total.unkept w) }
     ensures none { IfNone result.watch (crew.old ≡ []) }
 {
     work_all(rt, alloc, hall, job, sheet, crew);

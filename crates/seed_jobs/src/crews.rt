@@ -96,7 +96,7 @@ fn crew_works<R: Threads + Wait + Sync, K: Keeper + Send, S: Source + Send, G: J
     ensures worked { HaveWorked hall.now.catalogue job.now
         (workers_of S.told S.faults crew.old.items) (workers_of S.told S.faults crew.new.items) (tallies_of crew.new.items) }
     ensures shared { AreShared sheet.now (hands_of (workers_of S.told S.faults crew.new.items)) (total_of (tallies_of crew.new.items)).places }
-    ensures ended { SeesEnd sheet.now (total_of (tallies_of crew.new.items)).done (total_of (tallies_of crew.new.items)).failed result }
+    ensures ended { SeesEnd sheet.now (total_of (tallies_of crew.new.items)).done (total_of (tallies_of crew.new.items)).failed (total_of (tallies_of crew.new.items)).unkept result }
     ensures room { vec_capacity crew.new ≡ vec_capacity crew.old }
 {
     let CrewEnd { total: _, watch } = run_seed(rt, alloc, hall, job, sheet, crew.as_mut_slice());
@@ -131,7 +131,7 @@ pub(crate) fn run_by_crew<
     requires members { (length idle.old.items ≡ 8) × (8 ≤ vec_capacity idle.old) }
     requires room { (crew.old.items ≡ []) × (vec_capacity crew.old ≡ 8) }
     ensures run { (r : IsJobRunByCrew hall.now.catalogue job.now sheet.now hands.items (all_idle S.told S.faults idle.old.items) (all_idle S.told S.faults idle.new.items))
-        × SeesEnd sheet.now (total_of r.tallies).done (total_of r.tallies).failed result }
+        × SeesEnd sheet.now (total_of r.tallies).done (total_of r.tallies).failed (total_of r.tallies).unkept result }
     ensures idle { All (MayJoin hall.now.turnstile.table hall.now.catalogue) (all_idle S.told S.faults idle.new.items) }
     ensures members { (length idle.new.items ≡ 8) × (8 ≤ vec_capacity idle.new) }
     ensures room { (crew.new.items ≡ []) × (vec_capacity crew.new ≡ 8) }

@@ -1,7 +1,7 @@
 //! The hands of a crew, gathered.
 ghost use Rattle.std.specs.Prelude.{IfNone, IfSome, [], ◌≡◌, ◌∷◌};
 ghost use Rattle.job_board.specs.Hands.{watching};
-ghost use Rattle.job_board.specs.SheetCalls.{claimed_by, done_by, failed_by};
+ghost use Rattle.job_board.specs.SheetCalls.{claimed_by, done_by, failed_by, unkept_by};
 ghost use Rattle.seed_jobs.specs.Crews.{AreShared, SeesEnd, hands_of};
 ghost use Rattle.seed_jobs.specs.Gathered.{AreAlike, AreAll, AreOf, HasHeard, IsAlike};
 ghost use Rattle.seed_jobs.specs.Members.{tallies_of, worker_of, workers_of};
@@ -44,7 +44,7 @@ fn gather_in<K: Keeper, S: Source, G: Gate>(
     ensures shared { AreAll sheet.now (first.old.hand ∷ hands_of (workers_of S.told S.faults others.old))
         → AreShared sheet.now (first.new.hand ∷ hands_of (workers_of S.told S.faults others.old)) (claimed_by (first.new.hand ∷ hands_of (workers_of S.told S.faults others.old))) }
     ensures ended { AreAll sheet.now (first.old.hand ∷ hands_of (workers_of S.told S.faults others.old))
-        → SeesEnd sheet.now (done_by (first.new.hand ∷ hands_of (workers_of S.told S.faults others.old))) (failed_by (first.new.hand ∷ hands_of (workers_of S.told S.faults others.old))) result }
+        → SeesEnd sheet.now (done_by (first.new.hand ∷ hands_of (workers_of S.told S.faults others.old))) (failed_by (first.new.hand ∷ hands_of (workers_of S.told S.faults others.old))) (unkept_by (first.new.hand ∷ hands_of (workers_of S.told S.faults others.old))) result }
 {
     let watch = hear(sheet, &mut first.hand, others);
     first.hand.laws();
@@ -62,7 +62,7 @@ pub(crate) fn gather<K: Keeper, S: Source, G: Gate>(
     ensures shared { AreAll sheet.now (hands_of (workers_of S.told S.faults crew.old))
         → AreShared sheet.now (hands_of (workers_of S.told S.faults crew.new)) (claimed_by (hands_of (workers_of S.told S.faults crew.new))) }
     ensures ended { AreAll sheet.now (hands_of (workers_of S.told S.faults crew.old))
-        → IfSome result (λ w. SeesEnd sheet.now (done_by (hands_of (workers_of S.told S.faults crew.new))) (failed_by (hands_of (workers_of S.told S.faults crew.new))) w) }
+        → IfSome result (λ w. SeesEnd sheet.now (done_by (hands_of (workers_of S.told S.faults crew.new))) (failed_by (hands_of (workers_of S.told S.faults crew.new))) (unkept_by (hands_of (workers_of S.told S.faults crew.new))) w) }
     ensures none { IfNone result (crew.old ≡ []) }
 {
     let Some((first, others)) = crew.split_first_mut() else {

@@ -19,14 +19,17 @@ pub(crate) fn total<K: Keeper, S: Source, G: Gate>(crew: &[Member<K, S, G>]) -> 
     let mut places = 0;
     let mut done = 0;
     let mut failed = 0;
+    let mut unkept = 0;
     'adding: for member in crew {
         places += member.tally.places;
         done += member.tally.done;
         failed += member.tally.failed;
+        unkept += member.tally.unkept;
     }
     Tally {
         places,
         done,
         failed,
+        unkept,
     }
 }

@@ -21,7 +21,7 @@ use std::sync::Wait;
 use turnstile::Pass;
 
 /// Works at a job: claims a place, stops at the gate, refreshes the place's metatile, with force for a reseed, or makes the one cut,
-/// and reports the place done where that call answered no fault and failed where it did, until the sheet has no more places or the job
+/// and reports the place done where that call answered no fault, as not kept where it said so, and failed where it answered one, until the sheet has no more places or the job
 /// is cancelled.
 pub fn work<R: Wait, K: Keeper, S: Source, G: Gate>(
     rt: &R,
@@ -47,9 +47,9 @@ pub fn work<R: Wait, K: Keeper, S: Source, G: Gate>(
     'working: while let Some(place) = sheet.claim(hand) {
         hand.laws();
         gate.at(place);
-        let is_done = visit(rt, alloc, hall, job, place, pass, source).is_done();
-        report(sheet, hand, place, is_done);
-        tally = tally.and(is_done);
+        let end = visit(rt, alloc, hall, job, place, pass, source);
+        report(sheet, hand, place, &end);
+        tally = tally.and(&end);
     }
     tally
 }

@@ -17,7 +17,7 @@ visiting-preserved g c =
     let i = c.visiting.invariant in
     let v = c.visit-end.ensures in
     record {
-      part = rw (c.and-tally.ensures, c.is_done.ensures) (part_more _ _ _ _ _ _ _ _ c.args.job.now c.visiting.place c.visiting.tally (g.C.Keeper.state c.args.cabinet.now) (g.C.Keeper.state c.visiting.cabinet) (g.C.Keeper.state c.visit-end.new.cabinet) v.comes.0 c.visit-end.result i.part v.comes.1 i.told v.comes.2);
+      part = rw c.and-tally.ensures (part_more _ _ _ _ _ _ _ _ c.args.job.now c.visiting.place c.visiting.tally (g.C.Keeper.state c.args.cabinet.now) (g.C.Keeper.state c.visiting.cabinet) (g.C.Keeper.state c.visit-end.new.cabinet) v.comes.0 c.visit-end.result i.part v.comes.1 i.told v.comes.2);
       told = v.told ∙ i.told;
       rests = v.comes.2.rests;
       lasts = c.laws_of_lasting.ensures.on _ _ _ i.lasts v.lasts;

@@ -19,3 +19,9 @@ overflow_add-failed g c =
     let all = fits (λ t. t.failed) c.args.crew.now c.requires.size (λ k d below. (c.requires.few k d below).failed) c.adding.member-index c.member-item.result c.adding-test.true in
     let item = ap (λ m. m.tally.failed) c.member-item.is in
     rw c.adding.invariant.2 (rw item (omega (arith, all)))
+
+pub overflow_add-unkept : goal.overflow_add-unkept
+overflow_add-unkept g c =
+    let all = fits (λ t. t.unkept) c.args.crew.now c.requires.size (λ k d below. (c.requires.few k d below).unkept) c.adding.member-index c.member-item.result c.adding-test.true in
+    let item = ap (λ m. m.tally.unkept) c.member-item.is in
+    rw c.adding.invariant.3 (rw item (omega (arith, all)))

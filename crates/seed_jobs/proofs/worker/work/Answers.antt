@@ -10,7 +10,7 @@ and-tally-requires g c = countable c.working.invariant c.in-Some.ensures.some _ 
 
 pub working-preserved : goal.working-preserved
 working-preserved g c =
-    goes_on c.working.invariant c.in-Some.ensures.some _ c.visit.ensures.visited c.visit.ensures.told c.visit.ensures.of (rw (sym c.is_done-is_done.ensures) c.report.ensures) c.and-tally.result c.laws.ensures.within (rw (sym c.is_done-is_done.ensures) c.and-tally.ensures)
+    goes_on c.working.invariant c.in-Some.ensures.some _ c.visit-end.ensures.visited c.visit-end.ensures.told c.visit-end.ensures.of c.report.ensures c.and-tally.result c.laws.ensures.within c.and-tally.ensures
 
 pub returns : goal.returns
 returns g c = record { works = works c.working.invariant c.claim.new.hand c.in_default.ensures.none }
