@@ -23,7 +23,9 @@ use Rattle.job_board.specs.declared.shown.Reply.TheVariants as board_reply
 use Rattle.job_requests.specs.declared.request.JobRequest.{JobRequest}
 use Rattle.job_requests.specs.declared.request.JobRequest.TheVariants as job_request
 use Rattle.job_requests.specs.Routes.{request_for as job_request_for}
-use Rattle.job_requests.specs.Served.{IsLookServed, IsStopServed, IsSubmissionServed, ServesJob, outcome_of_look, outcome_of_submission}
+use Rattle.job_requests.specs.Served.{AreAllJobs, AreLooks, IsLookServed, IsStatusServed, IsStopServed, IsSubmissionServed, ServesJob, outcome_of_look, outcome_of_status, outcome_of_submission}
+use Rattle.job_requests.specs.Texts.{statuses_text}
+use Rattle.job_board.specs.declared.status.JobStatus.{JobStatus}
 use Rattle.job_forms.specs.declared.job.Job.{Job}
 use Rattle.matrix_geometry.specs.declared.address.Address.{Address}
 use Rattle.truncation_list.specs.declared.book.FrontedBook.{FrontedBook}
@@ -163,23 +165,36 @@ module _ (c : Catalogue) (told : Bool) (e : HallExchange) where
 
   look_caused : (n : ℕ) → AsksOfJobs c e.message (job_request.Look n) → (o : Outcome) → IsLookServed n e.board_before e.board_after o → IsCaused c told e o
   look_caused n asks o (Some p, left, one, is) =
-      caused_as o (outcome_of_look n (Some p) left) is (caused_while left _ (inr (n, p, record { before = e.board_before; asks = inl (asks, refl); one = one }, refl)))
+      caused_as o (outcome_of_look n (Some p) left) is (caused_while left _ (inr (inl (n, p, record { before = e.board_before; asks = inl (asks, refl); one = one }, refl))))
   look_caused n asks o (None, left, one, is) = caused_as o (outcome.Plain plain.NotFound) is (inr (inr (record { number = n; found_none = inl (asks, one) })))
 
   stopped_caused : (n : ℕ) → AsksOfJobs c e.message (job_request.Stop n) → (o : Outcome) (between : BoardHolding) → MakesOne e.board_before between (board_command.Stop n) (board_reply.Stop true) → IsLookServed n between e.board_after o → IsCaused c told e o
   stopped_caused n asks o between stop (Some p, left, one, is) =
-      caused_as o (outcome_of_look n (Some p) left) is (caused_while left _ (inr (n, p, record { before = between; asks = inr (asks, stop); one = one }, refl)))
+      caused_as o (outcome_of_look n (Some p) left) is (caused_while left _ (inr (inl (n, p, record { before = between; asks = inr (asks, stop); one = one }, refl))))
   stopped_caused n asks o between stop (None, left, one, is) = absurd (found_again e.board_before between e.board_after n stop one)
 
   stop_caused : (n : ℕ) → AsksOfJobs c e.message (job_request.Stop n) → (o : Outcome) → IsStopServed n e.board_before e.board_after o → IsCaused c told e o
-  stop_caused n asks o (inl h) = caused_as o (outcome.Plain plain.NotFound) h.1 (inr (inr (record { number = n; found_none = inr (asks, h.0) })))
+  stop_caused n asks o (inl h) = caused_as o (outcome.Plain plain.NotFound) h.1 (inr (inr (record { number = n; found_none = inr (inl (asks, h.0)) })))
   stop_caused n asks o (inr h) = stopped_caused n asks o h.0 h.1 h.2
+
+  status_caused : (n : ℕ) → AsksOfJobs c e.message (job_request.Status n) → (o : Outcome) → IsStatusServed n e.board_before e.board_after o → IsCaused c told e o
+  status_caused n asks o (Some s, left, one, is) =
+      caused_as o (outcome_of_status n (Some s) left) is (caused_while left _ (inr (inr (inl (n, s, record { asks = asks; one = one }, refl)))))
+  status_caused n asks o (None, left, one, is) = caused_as o (outcome.Plain plain.NotFound) is (inr (inr (record { number = n; found_none = inr (inr (asks, one)) })))
+
+  statuses_caused : AsksOfJobs c e.message job_request.Statuses → (o : Outcome) (found : List JobStatus) (between : BoardHolding) → AreLooks 1 found e.board_before between
+      → (AreAllJobs found between e.board_after × (o ≡ outcome.Job (statuses_text 1 found))) ⊎ ((e.board_after ≡ between) × (o ≡ outcome.Plain plain.NoMemory)) → IsCaused c told e o
+  statuses_caused asks o found between looks (inl h) =
+      caused_as o (outcome.Job (statuses_text 1 found)) h.1 (inr (inr (inr (found, record { asks = asks; between = between; looks = looks; all = h.0 }, refl))))
+  statuses_caused asks o found between looks (inr h) = caused_as o (outcome.Plain plain.NoMemory) h.1 tt
 
   job_caused : (r : JobRequest) → AsksOfJobs c e.message r → (o : Outcome) → ServesJob c r e.board_before e.board_after o → IsCaused c told e o
   job_caused (job_request.Submission job) asks o h = submission_caused job asks o h
   job_caused (job_request.Unformed f) asks o h = caused_as o (outcome.Unformed f) h.1 (inr asks)
   job_caused (job_request.Look n) asks o h = look_caused n asks o h
   job_caused (job_request.Stop n) asks o h = stop_caused n asks o h
+  job_caused (job_request.Status n) asks o h = status_caused n asks o h
+  job_caused job_request.Statuses asks o h = statuses_caused asks o h.found h.between h.looks h.told
   job_caused job_request.NotFound asks o h = caused_as o (outcome.Plain plain.NotFound) h.1 (inr (inl asks))
   job_caused job_request.WrongMethod asks o h = caused_as o (outcome.Plain plain.WrongMethod) h.1 (inr asks)
 
@@ -215,9 +230,10 @@ module _ (c : Catalogue) (told : Bool) (e : HallExchange) where
     no_expiry : (r : Expired) → HasExpiryTurn c e r → ⊥
     no_expiry r h = absurd (not_an_expiry a (one_request request.Expiry h.asks))
 
-    no_look : (n : ℕ) → (AsksOfJobs c e.message (job_request.Look n) × MakesOne e.board_before e.board_after (board_command.Look n) (board_reply.Look None)) ⊎ (AsksOfJobs c e.message (job_request.Stop n) × MakesOne e.board_before e.board_after (board_command.Stop n) (board_reply.Stop false)) → ⊥
+    no_look : (n : ℕ) → (AsksOfJobs c e.message (job_request.Look n) × MakesOne e.board_before e.board_after (board_command.Look n) (board_reply.Look None)) ⊎ ((AsksOfJobs c e.message (job_request.Stop n) × MakesOne e.board_before e.board_after (board_command.Stop n) (board_reply.Stop false)) ⊎ (AsksOfJobs c e.message (job_request.Status n) × MakesOne e.board_before e.board_after (board_command.Look n) (board_reply.Look None))) → ⊥
     no_look n (inl h) = no_job (job_request.Look n) h.0
-    no_look n (inr h) = no_job (job_request.Stop n) h.0
+    no_look n (inr (inl h)) = no_job (job_request.Stop n) h.0
+    no_look n (inr (inr h)) = no_job (job_request.Status n) h.0
 
     no_progress : (n : ℕ) (before : BoardHolding) → (AsksOfJobs c e.message (job_request.Look n) × (before ≡ e.board_before)) ⊎ (AsksOfJobs c e.message (job_request.Stop n) × MakesOne e.board_before before (board_command.Stop n) (board_reply.Stop true)) → ⊥
     no_progress n before (inl h) = no_job (job_request.Look n) h.0
@@ -246,7 +262,10 @@ module _ (c : Catalogue) (told : Bool) (e : HallExchange) where
     given_of (outcome.Dropped text) is h = absurd (no_expiry (expired.Dropped h.0) h.1)
     given_of (outcome.Plain plain.Within) is h = absurd (no_expiry expired.Within h)
     given_of (outcome.Job text) is (inl h) = absurd (no_job (job_request.Submission h.1.job) h.1.asks)
-    given_of (outcome.Job text) is (inr h) = absurd (no_progress h.0 h.2.before h.2.asks)
+    given_of (outcome.Job text) is (inr (inl h)) = absurd (no_progress h.0 h.2.before h.2.asks)
+    given_of (outcome.Job text) is (inr (inr (inl h))) = absurd (no_job (job_request.Status h.0) h.2.asks)
+    given_of (outcome.Job text) is (inr (inr (inr h))) = absurd (no_job job_request.Statuses h.1.asks)
+    given_of (outcome.Composite numbers text) is h = absurd h
     given_of (outcome.Plain plain.BoardFull) is h = absurd (no_job (job_request.Submission h.job) h.asks)
     given_of (outcome.Plain plain.DiskFault) is (inl h) = absurd (no_cut (cut.DiskFault h.0 h.1) h.2)
     given_of (outcome.Plain plain.DiskFault) is (inr h) = absurd (no_expiry (expired.DiskFault h.0 h.1) h.2)

@@ -1,15 +1,15 @@
 -- Requests and messages over a hall and a board.
 use Rattle.std.proofs.Common.{ℕ, ◌≡◌, Bool, true, false, List, [], Option, Some, None, inl, inr, refl, sym, subst, ◌∙◌}
-use Rattle.std.specs.Prelude.{MatchOption}
+use Rattle.std.specs.Prelude.{◌⊎◌, MatchOption}
 use Rattle.catalog.specs.declared.catalogue.Catalogue.{Catalogue}
 use Rattle.http_wire.specs.declared.message.Message.{Message}
 use Rattle.job_board.specs.Calls.{BoardHolding}
 use Rattle.job_requests.specs.declared.request.JobRequest.{JobRequest}
 use Rattle.job_requests.specs.declared.request.JobRequest.TheVariants as job_request
 use Rattle.job_requests.specs.Routes.{request_for as job_request_for}
-use Rattle.job_requests.specs.Served.{ServesJob, outcome_of_look, outcome_of_submission}
-use Rattle.job_requests.specs.Texts.{progress_text, submitted_text}
-use Rattle.job_board.specs.declared.progress.Progress.{Progress}
+use Rattle.job_requests.specs.Served.{ServesJob, outcome_of_look, outcome_of_status, outcome_of_submission}
+use Rattle.job_requests.specs.Texts.{progress_text, status_text, submitted_text}
+use Rattle.job_board.specs.declared.status.JobStatus.{JobStatus}
 use Rattle.cabinet_chest.specs.declared.shown.Note.{Note}
 use Rattle.cache_hall.specs.Turned.{HallPass}
 use Rattle.cache_hall.specs.Gained.{gains_none}
@@ -31,9 +31,13 @@ told_of_job : (left : Bool) (text : List ℕ) → told_at left (outcome.Job text
 told_of_job true text e = absurd (cc)
 told_of_job false text e = absurd (cc)
 
-told_of_look : (n : ℕ) (p : Option Progress) (left : Bool) → outcome_of_look n p left ≡ outcome.SourceFailed → ⊥
-told_of_look n (Some p) left e = told_of_job left (progress_text n p) e
+told_of_look : (n : ℕ) (p : Option JobStatus) (left : Bool) → outcome_of_look n p left ≡ outcome.SourceFailed → ⊥
+told_of_look n (Some p) left e = told_of_job left (progress_text n p.progress) e
 told_of_look n None left e = absurd (cc)
+
+told_of_status : (n : ℕ) (s : Option JobStatus) (left : Bool) → outcome_of_status n s left ≡ outcome.SourceFailed → ⊥
+told_of_status n (Some s) left e = told_of_job left (status_text n s) e
+told_of_status n None left e = absurd (cc)
 
 told_of_submission : (n : Option ℕ) (left : Bool) → outcome_of_submission n left ≡ outcome.SourceFailed → ⊥
 told_of_submission (Some n) left e = told_of_job left (submitted_text n) e
@@ -47,6 +51,12 @@ module _ (c : Catalogue) (board board_after : BoardHolding) (o : Outcome) where
   no_source_failed (job_request.Look n) h e = told_of_look n h.0 h.1 (sym h.3 ∙ e)
   no_source_failed (job_request.Stop n) (inl h) e = let is = h.1 in absurd (cc)
   no_source_failed (job_request.Stop n) (inr h) e = let look = h.2 in told_of_look n look.0 look.1 (sym look.3 ∙ e)
+  no_source_failed (job_request.Status n) h e = told_of_status n h.0 h.1 (sym h.3 ∙ e)
+  no_source_failed job_request.Statuses h e = statuses_told h.told e
+    where
+      statuses_told : {All Same : Type 0} {text : List ℕ} → (All × (o ≡ outcome.Job text)) ⊎ (Same × (o ≡ outcome.Plain plain.NoMemory)) → o ≡ outcome.SourceFailed → ⊥
+      statuses_told (inl h) e = let is = h.1 in absurd (cc)
+      statuses_told (inr h) e = let is = h.1 in absurd (cc)
   no_source_failed job_request.NotFound h e = let is = h.1 in absurd (cc)
   no_source_failed job_request.WrongMethod h e = let is = h.1 in absurd (cc)
 

@@ -9,14 +9,14 @@ use Rattle.job_board.specs.declared.shown.Command.TheVariants as command
 use Rattle.job_board.specs.declared.shown.Reply.{Reply}
 use Rattle.job_board.specs.declared.shown.Reply.TheVariants as reply
 use Rattle.job_board.specs.declared.shown.Shown.{Shown}
-use Rattle.job_board.specs.declared.progress.Progress.{Progress}
+use Rattle.job_board.specs.declared.status.JobStatus.{JobStatus}
 use Rattle.job_board.specs.Hands.{SheetHolding}
 use Rattle.truncation_list.specs.declared.book.FrontedBook.{FrontedBook}
 
 same_stop : (x y : Bool) → reply.Stop x ≡ reply.Stop y → y ≡ x
 same_stop x y e = cc
 
-same_look : (x y : Option Progress) → reply.Look x ≡ reply.Look y → y ≡ x
+same_look : (x y : Option JobStatus) → reply.Look x ≡ reply.Look y → y ≡ x
 same_look x y e = cc
 
 -- WHAT THE REPLIES SAY
@@ -29,7 +29,7 @@ stopped_by b a n does r is so may =
 unseen_by : (b a : Shown) (n : ℕ) (does : Command) (r : Reply) → does ≡ command.Look n → r ≡ reply.Look None → BoardMayReply b does r a → watch_of b n ≡ None
 unseen_by b a n does r is so may =
     let h : BoardMayReply b (command.Look n) (reply.Look None) a = subst (λ (z : Reply). BoardMayReply b (command.Look n) z a) so (subst (λ (d : Command). BoardMayReply b d r a) is may) in
-    let row : Looks b n None a = subst (λ (x : Option Progress). Looks b n x a) (same_look None h.0 h.1) h.2 in
+    let row : Looks b n None a = subst (λ (x : Option JobStatus). Looks b n x a) (same_look None h.0 h.1) h.2 in
     row.0
 
 -- HOW MANY JOBS THERE ARE

@@ -18,8 +18,9 @@ use Rattle.job_board.specs.Calls.{BoardHolding, MakesOne}
 use Rattle.job_requests.specs.declared.request.JobRequest.{JobRequest}
 use Rattle.job_requests.specs.declared.request.JobRequest.TheVariants as job_request
 use Rattle.job_requests.specs.Routes.{request_for as job_request_for}
-use Rattle.job_requests.specs.Texts.{progress_text, submitted_text}
-use Rattle.job_board.specs.declared.progress.Progress.{Progress}
+use Rattle.job_requests.specs.Served.{AreAllJobs, AreLooks}
+use Rattle.job_requests.specs.Texts.{progress_text, status_text, statuses_text, submitted_text}
+use Rattle.job_board.specs.declared.status.JobStatus.{JobStatus}
 use Rattle.job_forms.specs.declared.job.Job.{Job}
 use Rattle.job_forms.specs.Places.{places}
 use Rattle.matrix_geometry.specs.declared.address.Address.{Address}
@@ -107,24 +108,40 @@ pub record HasSubmitTurn (c : Catalogue) (e : HallExchange) (n : Option ℕ) : T
   pub one : MakesOne e.board_before e.board_after (board_command.Submit job (length (places c job))) (board_reply.Submit n)
 
 -- the message looks at the job of a number, or ends it early and then looks, and was told this of it
-pub record HasLookTurn (c : Catalogue) (e : HallExchange) (n : ℕ) (p : Progress) : Type 0 where
+pub record HasLookTurn (c : Catalogue) (e : HallExchange) (n : ℕ) (s : JobStatus) : Type 0 where
   pub before : BoardHolding
   pub asks :
       (AsksOfJobs c e.message (job_request.Look n) × (before ≡ e.board_before))
       ⊎ (AsksOfJobs c e.message (job_request.Stop n) × MakesOne e.board_before before (board_command.Stop n) (board_reply.Stop true))
-  pub one : MakesOne before e.board_after (board_command.Look n) (board_reply.Look (Some p))
+  pub one : MakesOne before e.board_after (board_command.Look n) (board_reply.Look (Some s))
+
+-- the message looks at the job of a number at the board, and its one turn was told this of it
+pub record HasStatusTurn (c : Catalogue) (e : HallExchange) (n : ℕ) (s : JobStatus) : Type 0 where
+  pub asks : AsksOfJobs c e.message (job_request.Status n)
+  pub one : MakesOne e.board_before e.board_after (board_command.Look n) (board_reply.Look (Some s))
+
+-- the message asks for all jobs, and its turns looked at each, from the first on, and were told these
+pub record HasStatusTurns (c : Catalogue) (e : HallExchange) (found : List JobStatus) : Type 0 where
+  pub asks : AsksOfJobs c e.message job_request.Statuses
+  pub between : BoardHolding
+  pub looks : AreLooks 1 found e.board_before between
+  pub all : AreAllJobs found between e.board_after
 
 -- the message asks for the job of a number, and its one turn found none of this number
 pub record HasNoJob (c : Catalogue) (e : HallExchange) : Type 0 where
   pub number : ℕ
   pub found_none :
       (AsksOfJobs c e.message (job_request.Look number) × MakesOne e.board_before e.board_after (board_command.Look number) (board_reply.Look None))
-      ⊎ (AsksOfJobs c e.message (job_request.Stop number) × MakesOne e.board_before e.board_after (board_command.Stop number) (board_reply.Stop false))
+      ⊎ ((AsksOfJobs c e.message (job_request.Stop number) × MakesOne e.board_before e.board_after (board_command.Stop number) (board_reply.Stop false))
+      ⊎ (AsksOfJobs c e.message (job_request.Status number) × MakesOne e.board_before e.board_after (board_command.Look number) (board_reply.Look None)))
 
 -- what is told of a job
 abbrev pub IsJobText : Catalogue → HallExchange → List ℕ → Type 0
 IsJobText c e text =
-    ((n : ℕ) × HasSubmitTurn c e (Some n) × (text ≡ submitted_text n)) ⊎ ((n : ℕ) × (p : Progress) × HasLookTurn c e n p × (text ≡ progress_text n p))
+    ((n : ℕ) × HasSubmitTurn c e (Some n) × (text ≡ submitted_text n))
+    ⊎ (((n : ℕ) × (s : JobStatus) × HasLookTurn c e n s × (text ≡ progress_text n s.progress))
+    ⊎ (((n : ℕ) × (s : JobStatus) × HasStatusTurn c e n s × (text ≡ status_text n s))
+    ⊎ ((found : List JobStatus) × HasStatusTurns c e found × (text ≡ statuses_text 1 found))))
 
 -- WHY THIS ANSWER: each has its cause, in what the message asks for and in the turns that were made for it. Want of memory alone is free.
 abbrev pub IsCaused : Catalogue → Bool → HallExchange → Outcome → Type 0
@@ -143,6 +160,7 @@ IsCaused c told e (outcome.Unformed fault) = AsksFor c e.message (request.Unform
 IsCaused c told e (outcome.Dropped text) = (m : MetaKey) × HasExpiryTurn c e (expired.Dropped m) × (text ≡ dropped_text c m)
 IsCaused c told e (outcome.Plain plain.Within) = HasExpiryTurn c e expired.Within
 IsCaused c told e (outcome.Job text) = IsJobText c e text
+IsCaused c told e (outcome.Composite numbers text) = ⊥
 IsCaused c told e (outcome.Plain plain.BoardFull) = HasSubmitTurn c e None
 IsCaused c told e (outcome.Plain plain.DiskFault) = HasFailedCut c e ⊎ HasFailedExpiry c e
 IsCaused c told e (outcome.Plain plain.NoMemory) = ⊤

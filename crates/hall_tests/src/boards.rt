@@ -2,7 +2,8 @@
 ghost use Rattle.job_board.specs.Calls.{IsBoardPass};
 
 use crate::stage::{PLACES, board_of, seed};
-use job_board::{Board, BoardPass, Progress};
+use job_board::{Board, BoardPass, JobState, JobStatus, Progress};
+use job_forms::JobKind;
 use std::alloc::Global;
 use std::sync::Wait;
 use std::test::Fail;
@@ -21,16 +22,21 @@ fn is_posted_once<R: Wait>(rt: &R, alloc: Global, board: &Board, pass: &mut Boar
     is_it && board.next(rt, pass).is_none()
 }
 
-/// Whether nothing of the first job was claimed, and there is no second one.
+/// Whether the first job is told to run while nothing of it was claimed, and there is no second one.
 fn is_untouched<R: Wait>(rt: &R, board: &Board, pass: &mut BoardPass) -> bool
     requires { IsBoardPass board.now.turnstile.table pass.old }
 {
-    let untouched = Progress {
-        places: PLACES,
-        claimed: 0,
-        done: 0,
-        failed: 0,
-        cancelled: false,
+    let untouched = JobStatus {
+        kind: JobKind::Seed,
+        state: JobState::Running,
+        progress: Progress {
+            places: PLACES,
+            claimed: 0,
+            done: 0,
+            failed: 0,
+            unkept: 0,
+            cancelled: false,
+        },
     };
     let first = board.look(rt, pass, 1);
     let second = board.look(rt, pass, 2);

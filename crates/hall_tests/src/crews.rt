@@ -3,19 +3,25 @@ ghost use Rattle.std.specs.Prelude.{IfOk, length, ◌≡◌};
 
 use crate::meeting::{Meeting, MeetingGate};
 use crate::stage::{new_stage, run};
-use job_board::Progress;
+use job_board::{JobState, JobStatus, Progress};
+use job_forms::JobKind;
 use seed_jobs::OpenGate;
 use std::alloc::{AllocError, Global};
 use std::test::Fail;
 
-/// How far a seed is of whose seven places so many were claimed and done.
-fn done(places: u64) -> Progress {
-    Progress {
-        places: 7,
-        claimed: places,
-        done: places,
-        failed: 0,
-        cancelled: false,
+/// A seed that stands so, of whose seven places so many were claimed and done.
+fn done(state: JobState, places: u64) -> JobStatus {
+    JobStatus {
+        kind: JobKind::Seed,
+        state,
+        progress: Progress {
+            places: 7,
+            claimed: places,
+            done: places,
+            failed: 0,
+            unkept: 0,
+            cancelled: false,
+        },
     }
 }
 
@@ -48,7 +54,9 @@ fn a_seed_is_done_by_three_members(rt: HostRuntime) -> Result<(), Fail> {
     let Some(stage) = new_stage(alloc, open_gates(alloc)?)? else {
         return Err(Fail::from("no stage"));
     };
-    assert!(rt; run(&rt, alloc, stage, 3) == Some((done(0), done(7))));
+    assert!(rt;
+        run(&rt, alloc, stage, 3) == Some((done(JobState::Waiting, 0), done(JobState::Done, 7)))
+    );
     Ok(())
 }
 
@@ -59,7 +67,9 @@ fn two_members_work_at_the_same_time(rt: HostRuntime) -> Result<(), Fail> {
     let Some(stage) = new_stage(alloc, meeting_gates(alloc, &meeting)?)? else {
         return Err(Fail::from("no stage"));
     };
-    assert!(rt; run(&rt, alloc, stage, 2) == Some((done(0), done(7))));
+    assert!(rt;
+        run(&rt, alloc, stage, 2) == Some((done(JobState::Waiting, 0), done(JobState::Done, 7)))
+    );
     assert!(rt; meeting.is_held());
     Ok(())
 }

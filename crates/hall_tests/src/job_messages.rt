@@ -12,11 +12,15 @@ use std::alloc::{AllocError, Global};
 use std::sync::Wait;
 use std::test::Fail;
 
-/// A job is submitted, looked at and cancelled, and then one is looked at that isn't there.
+/// A job is submitted, looked at and cancelled, and told in full with all jobs and by itself; then some is asked of one that isn't there.
 const MESSAGES: &[u8] = b"POST /jobs HTTP/1.1\r\nContent-Length: 71\r\n\r\n\
     {\"layer\":\"demo\",\"grid\":\"tiny\",\"zoomStart\":0,\"zoomStop\":1,\"type\":\"seed\"}\
     GET /jobs/1 HTTP/1.1\r\n\r\n\
     DELETE /jobs/1 HTTP/1.1\r\n\r\n\
+    GET /board HTTP/1.1\r\n\r\n\
+    GET /board/1 HTTP/1.1\r\n\r\n\
+    DELETE /board/1 HTTP/1.1\r\n\r\n\
+    GET /board/2 HTTP/1.1\r\n\r\n\
     GET /jobs/9 HTTP/1.1\r\n\r\n";
 
 /// The job has a place for each of the five tiles at zooms 0 and 1, and nobody runs it.
@@ -27,6 +31,12 @@ const RESPONSES: &[u8] =
     {\"job\":1,\"places\":5,\"claimed\":0,\"done\":0,\"failed\":0,\"cancelled\":false}\n\
     HTTP/1.1 200 OK\r\nContent-Type: application/json\r\nContent-Length: 70\r\n\r\n\
     {\"job\":1,\"places\":5,\"claimed\":0,\"done\":0,\"failed\":0,\"cancelled\":true}\n\
+    HTTP/1.1 200 OK\r\nContent-Type: application/json\r\nContent-Length: 113\r\n\r\n\
+    {\"job\":1,\"type\":\"seed\",\"state\":\"waiting\",\"places\":5,\"claimed\":0,\"done\":0,\"failed\":0,\"unkept\":0,\"cancelled\":true}\n\
+    HTTP/1.1 200 OK\r\nContent-Type: application/json\r\nContent-Length: 113\r\n\r\n\
+    {\"job\":1,\"type\":\"seed\",\"state\":\"waiting\",\"places\":5,\"claimed\":0,\"done\":0,\"failed\":0,\"unkept\":0,\"cancelled\":true}\n\
+    HTTP/1.1 405 Method Not Allowed\r\nContent-Length: 0\r\n\r\n\
+    HTTP/1.1 404 Not Found\r\nContent-Length: 0\r\n\r\n\
     HTTP/1.1 404 Not Found\r\nContent-Length: 0\r\n\r\n";
 
 /// Holds a session over these messages, and tells its end and what was written.

@@ -13,7 +13,7 @@ use cabinet_chest::CabinetChest;
 use cache_hall::{Hall, HallEntry};
 use catalog::Catalogue;
 use config_text::read_catalogue;
-use job_board::{Board, BoardEntry, BoardPass, Progress};
+use job_board::{Board, BoardEntry, BoardPass, JobState, JobStatus};
 use job_forms::{Job, JobKind};
 use matrix_geometry::Filter;
 use seed_jobs::{JobGate, Runner, idle_members, run_jobs};
@@ -147,13 +147,13 @@ pub fn new_stage<G: JobGate>(alloc: Global, gates: Vec<G>) -> Result<Option<Stag
     }))
 }
 
-/// Whether a job that has ended tells the same numbers again, and also once it was stopped.
+/// Whether a job that has ended tells the same numbers again, and also once it was stopped, when it is still told to be done.
 fn stays_over<R: Wait>(
     rt: &R,
     board: &Board,
     pass: &mut BoardPass,
     number: u64,
-    told: Progress,
+    told: JobStatus,
 ) -> bool
     requires { IsBoardPass board.now.turnstile.table pass.old }
 {
@@ -162,8 +162,10 @@ fn stays_over<R: Wait>(
     let Some(last) = board.look(rt, pass, number) else {
         return false;
     };
-    let same = last.done == told.done && last.failed == told.failed;
-    again == Some(told) && is_stopped && same && last.cancelled
+    let same = last.progress.done == told.progress.done
+        && last.progress.failed == told.progress.failed;
+    let is_done = last.state == JobState::Done && last.progress.cancelled;
+    again == Some(told) && is_stopped && same && is_done
 }
 
 /// Submits a seed, and tells how far it is before it is run and after all jobs were; none where a later look tells other numbers.
@@ -172,7 +174,7 @@ pub fn run<R: Threads + Wait + Sync, G: JobGate + Send>(
     alloc: Global,
     stage: Stage<G>,
     threads: u32,
-) -> Option<(Progress, Progress)>
+) -> Option<(JobStatus, JobStatus)>
     requires threads { (1 ≤ threads) × (threads ≤ 8) }
     requires valid { IsValid stage.hall.catalogue }
     requires ready { IsStandbyReady stage.board.turnstile.table stage.hall.turnstile.table stage.hall.catalogue stage.runner }

@@ -1,4 +1,4 @@
--- Where a message leads under the path of jobs.
+-- Where a message leads under the paths of jobs and of their board.
 use Rattle.std.specs.Prelude.{ℕ, ◌&&◌, nat_le, nat_eq, if◌then◌else◌, List, drop, length, Option, Some, None, Result, Ok, Err, codes, ⊤}
 use Rattle.std.specs.List.{starts_with}
 use Rattle.std.specs.Option.{option_map_or}
@@ -32,6 +32,24 @@ asked_of Other n = request.WrongMethod
 abbrev pub job_at : Method → List ℕ → JobRequest
 job_at method behind = option_map_or (asked_of method) (number_in behind) request.NotFound
 
+-- what is asked of the board: GET tells of all jobs
+abbrev pub listed : Method → JobRequest
+listed Get = request.Statuses
+listed Post = request.WrongMethod
+listed Delete = request.WrongMethod
+listed Other = request.WrongMethod
+
+-- what is asked of the job of a number at the board: GET tells of it
+abbrev pub status_of : Method → ℕ → JobRequest
+status_of Get n = request.Status n
+status_of Post n = request.WrongMethod
+status_of Delete n = request.WrongMethod
+status_of Other n = request.WrongMethod
+
+-- by what stands behind /board/
+abbrev pub status_at : Method → List ℕ → JobRequest
+status_at method behind = option_map_or (status_of method) (number_in behind) request.NotFound
+
 -- what a body asks for, by its reading
 abbrev pub submission_of : Result Job JobFault → JobRequest
 submission_of (Ok job) = request.Submission job
@@ -44,12 +62,19 @@ posted Post reading = submission_of reading
 posted Delete reading = request.WrongMethod
 posted Other reading = request.WrongMethod
 
--- what a message asks for at /jobs and below it; all other paths are another table's
+-- what is asked for below /board or /jobs
+unfoldable pub below : Method → List ℕ → Option JobRequest
+below method path =
+    if starts_with nat_eq path (codes "/board/") then Some (status_at method (drop 7 path)) else
+    (if starts_with nat_eq path (codes "/jobs/") then Some (job_at method (drop 6 path)) else
+    None)
+
+-- what a message asks for at /jobs, at /board and below these; all other paths are another table's
 unfoldable pub request_for : Catalogue → Message → Option JobRequest
 request_for c m =
     if bytes_eq (path_of m.target) (codes "/jobs") then Some (posted m.method (job_of c m.body)) else
-    (if starts_with nat_eq (path_of m.target) (codes "/jobs/") then Some (job_at m.method (drop 6 (path_of m.target))) else
-    None)
+    (if bytes_eq (path_of m.target) (codes "/board") then Some (listed m.method) else
+    below m.method (path_of m.target))
 
 -- a job that is asked for fits the catalogue
 abbrev pub IsOf : Catalogue → JobRequest → Type 0
@@ -57,5 +82,7 @@ IsOf c (request.Submission job) = Fits c job
 IsOf c (request.Unformed fault) = ⊤
 IsOf c (request.Look n) = ⊤
 IsOf c (request.Stop n) = ⊤
+IsOf c (request.Status n) = ⊤
+IsOf c request.Statuses = ⊤
 IsOf c request.NotFound = ⊤
 IsOf c request.WrongMethod = ⊤

@@ -1,10 +1,10 @@
 -- What a request for a job comes to: the turns that are made for it at the board, and the outcome that they are answered by.
-use Rattle.std.specs.Prelude.{ℕ, ◌≡◌, ◌⊎◌, Bool, true, false, length, Option, Some, None}
+use Rattle.std.specs.Prelude.{ℕ, suc, ◌≡◌, ◌+◌, ◌⊎◌, Bool, true, false, List, [], ◌∷◌, length, Option, Some, None}
 use Rattle.catalog.specs.declared.catalogue.Catalogue.{Catalogue}
 use Rattle.job_board.specs.declared.shown.Command.TheVariants as command
 use Rattle.job_board.specs.declared.shown.Reply.TheVariants as reply
 use Rattle.job_board.specs.Calls.{BoardHolding, MakesNone, MakesOne}
-use Rattle.job_board.specs.declared.progress.Progress.{Progress}
+use Rattle.job_board.specs.declared.status.JobStatus.{JobStatus}
 use Rattle.job_forms.specs.declared.job.Job.{Job}
 use Rattle.job_forms.specs.Places.{places}
 use Rattle.tile_requests.specs.declared.outcome.Outcome.{Outcome}
@@ -13,7 +13,7 @@ use Rattle.tile_requests.specs.declared.outcome.Plain.TheVariants as plain
 use Rattle.tile_requests.specs.Requests.{told_at}
 use Rattle.job_requests.specs.declared.request.JobRequest.{JobRequest}
 use Rattle.job_requests.specs.declared.request.JobRequest.TheVariants as request
-use Rattle.job_requests.specs.Texts.{progress_text, submitted_text}
+use Rattle.job_requests.specs.Texts.{progress_text, status_text, statuses_text, submitted_text}
 
 -- A SUBMISSION
 
@@ -30,13 +30,13 @@ IsSubmissionServed c job before after o =
 -- A LOOK
 
 -- how far the job is, while memory is left for the text; nothing where there is no such job
-abbrev pub outcome_of_look : ℕ → Option Progress → Bool → Outcome
-outcome_of_look n (Some p) left = told_at left (outcome.Job (progress_text n p))
+abbrev pub outcome_of_look : ℕ → Option JobStatus → Bool → Outcome
+outcome_of_look n (Some s) left = told_at left (outcome.Job (progress_text n s.progress))
 outcome_of_look n None left = outcome.Plain plain.NotFound
 
 -- one turn, which says what is answered
 abbrev pub IsLookServed : ℕ → BoardHolding → BoardHolding → Outcome → Type 0
-IsLookServed n before after o = (p : Option Progress) × (left : Bool) × MakesOne before after (command.Look n) (reply.Look p) × (o ≡ outcome_of_look n p left)
+IsLookServed n before after o = (s : Option JobStatus) × (left : Bool) × MakesOne before after (command.Look n) (reply.Look s) × (o ≡ outcome_of_look n s left)
 
 -- A STOP
 
@@ -45,11 +45,40 @@ abbrev pub IsStopServed : ℕ → BoardHolding → BoardHolding → Outcome → 
 IsStopServed n before after o =
     (MakesOne before after (command.Stop n) (reply.Stop false) × (o ≡ outcome.Plain plain.NotFound)) ⊎ ((between : BoardHolding) × MakesOne before between (command.Stop n) (reply.Stop true) × IsLookServed n between after o)
 
+-- A LOOK AT THE BOARD
+
+-- where the job stands, in full, while memory is left for the text; nothing where there is no such job
+abbrev pub outcome_of_status : ℕ → Option JobStatus → Bool → Outcome
+outcome_of_status n (Some s) left = told_at left (outcome.Job (status_text n s))
+outcome_of_status n None left = outcome.Plain plain.NotFound
+
+-- one turn, which says what is answered
+abbrev pub IsStatusServed : ℕ → BoardHolding → BoardHolding → Outcome → Type 0
+IsStatusServed n before after o = (s : Option JobStatus) × (left : Bool) × MakesOne before after (command.Look n) (reply.Look s) × (o ≡ outcome_of_status n s left)
+
+-- one look after the other at the jobs from a number on, and what each found
+abbrev pub AreLooks : ℕ → List JobStatus → BoardHolding → BoardHolding → Type 0
+AreLooks n [] before after = after ≡ before
+AreLooks n (s ∷ ss) before after = (between : BoardHolding) × MakesOne before between (command.Look n) (reply.Look (Some s)) × AreLooks (suc n) ss between after
+
+-- there is no job behind these: a look for the next one found none, or they are as many as a board has in its life
+abbrev pub AreAllJobs : List JobStatus → BoardHolding → BoardHolding → Type 0
+AreAllJobs ss before after = MakesOne before after (command.Look (length ss + 1)) (reply.Look None) ⊎ ((length ss ≡ 1024) × (after ≡ before))
+
+-- All jobs from the first on, looked at one after the other, each with its line; or memory ran out behind some of these looks
+pub record AreStatusesServed (before after : BoardHolding) (o : Outcome) : Type 0 where
+  pub found : List JobStatus
+  pub between : BoardHolding
+  pub looks : AreLooks 1 found before between
+  pub told : (AreAllJobs found between after × (o ≡ outcome.Job (statuses_text 1 found))) ⊎ ((after ≡ between) × (o ≡ outcome.Plain plain.NoMemory))
+
 -- ANY REQUEST for a job
 abbrev pub ServesJob : Catalogue → JobRequest → BoardHolding → BoardHolding → Outcome → Type 0
 ServesJob c (request.Submission job) before after o = IsSubmissionServed c job before after o
 ServesJob c (request.Unformed fault) before after o = (after ≡ before) × (o ≡ outcome.Unformed fault)
 ServesJob c (request.Look n) before after o = IsLookServed n before after o
 ServesJob c (request.Stop n) before after o = IsStopServed n before after o
+ServesJob c (request.Status n) before after o = IsStatusServed n before after o
+ServesJob c request.Statuses before after o = AreStatusesServed before after o
 ServesJob c request.NotFound before after o = (after ≡ before) × (o ≡ outcome.Plain plain.NotFound)
 ServesJob c request.WrongMethod before after o = (after ≡ before) × (o ≡ outcome.Plain plain.WrongMethod)

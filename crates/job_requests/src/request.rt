@@ -1,7 +1,7 @@
-//! What is asked for under the path of jobs.
+//! What is asked for under the paths of jobs and of their board.
 use job_forms::{Job, JobFault};
 
-/// What a message under `/jobs` asks for.
+/// What a message under `/jobs` or `/board` asks for.
 #[derive(Clone, Copy, PartialEq, Eq)]
 pub enum JobRequest {
     /// That this job, which fits the catalogue, is run.
@@ -12,6 +12,10 @@ pub enum JobRequest {
     Look(u64),
     /// That the job of this number ends early.
     Stop(u64),
+    /// Where the job of this number stands, in full.
+    Status(u64),
+    /// Where each job stands that was ever submitted.
+    Statuses,
     /// Its path leads nowhere.
     NotFound,
     /// Its path takes another method.

@@ -1,8 +1,9 @@
-//! Where a message leads under the path of jobs.
+//! Where a message leads under the paths of jobs and of their board.
 ghost use Rattle.std.specs.Prelude.{◌≡◌, IfOk, IfSome};
+ghost use Rattle.catalog.specs.declared.catalogue.Catalogue.{Catalogue};
 ghost use Rattle.catalog.specs.Valid.{IsValid};
 ghost use Rattle.job_forms.specs.Reading.{job_of};
-ghost use Rattle.job_requests.specs.Routes.{IsOf, asked_of, job_at, number_in, request_for, submission_of};
+ghost use Rattle.job_requests.specs.Routes.{IsOf, asked_of, below, job_at, listed, number_in, request_for, status_at, status_of, submission_of};
 ghost use Rattle.tile_requests.specs.Shown.{shown_message};
 
 use crate::request::JobRequest;
@@ -48,6 +49,36 @@ fn job_at(method: Method, behind: &[u8]) -> JobRequest
     }
 }
 
+/// What is asked of the board by a method.
+fn listed(method: Method) -> JobRequest
+    ensures value { result ≡ listed method }
+{
+    match method {
+        Method::Get => JobRequest::Statuses,
+        Method::Post | Method::Delete | Method::Other => JobRequest::WrongMethod,
+    }
+}
+
+/// What is asked of a job at the board by a method.
+fn status_of(method: Method, number: u64) -> JobRequest
+    ensures value { result ≡ status_of method number }
+{
+    match method {
+        Method::Get => JobRequest::Status(number),
+        Method::Post | Method::Delete | Method::Other => JobRequest::WrongMethod,
+    }
+}
+
+/// What is asked for where the path is that of a job at the board, by what stands behind `/board/`.
+fn status_at(method: Method, behind: &[u8]) -> JobRequest
+    ensures value { result ≡ status_at method behind.now }
+{
+    match number_in(behind) {
+        None => JobRequest::NotFound,
+        Some(number) => status_of(method, number),
+    }
+}
+
 /// What a body asks for that is posted to `/jobs`. `AllocError` where memory runs out.
 fn submission_of(
     alloc: Global,
@@ -65,8 +96,23 @@ fn submission_of(
     }
 }
 
-/// What a message asks for under the path of jobs; none where its path is neither `/jobs` nor below it. `AllocError` where memory runs
-/// out.
+/// What is asked for below `/board` or `/jobs`; none where the path is below neither.
+#[tactic(auto, unfolding(crate::specs::Routes::below))]
+fn below(method: Method, path: &[u8]) -> Option<JobRequest>
+    ensures value { result ≡ below method path.now }
+    ensures of { (c : Catalogue) → IfSome result (IsOf c) }
+{
+    match path.strip_prefix(b"/board/") {
+        Some(behind) => Some(status_at(method, behind)),
+        None => match path.strip_prefix(b"/jobs/") {
+            Some(behind) => Some(job_at(method, behind)),
+            None => None,
+        },
+    }
+}
+
+/// What a message asks for under the paths of jobs and of their board; none where its path is neither `/jobs` nor `/board` nor below these.
+/// `AllocError` where memory runs out.
 #[tactic(auto, unfolding(crate::specs::Routes::request_for))]
 pub fn read_job_request(
     alloc: Global,
@@ -84,8 +130,8 @@ pub fn read_job_request(
             Method::Get | Method::Delete | Method::Other => Ok(Some(JobRequest::WrongMethod)),
         };
     }
-    match path.strip_prefix(b"/jobs/") {
-        Some(behind) => Ok(Some(job_at(message.method, behind))),
-        None => Ok(None),
+    if path == b"/board".as_slice() {
+        return Ok(Some(listed(message.method)));
     }
+    Ok(below(message.method, path))
 }

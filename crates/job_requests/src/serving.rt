@@ -5,10 +5,11 @@ ghost use Rattle.job_board.specs.Boards.{MaySubmit};
 ghost use Rattle.job_board.specs.Calls.{IsBoardPass};
 ghost use Rattle.job_forms.specs.Job.{Fits};
 ghost use Rattle.job_requests.specs.Routes.{IsOf};
-ghost use Rattle.job_requests.specs.Served.{IsLookServed, IsStopServed, IsSubmissionServed, ServesJob};
+ghost use Rattle.job_requests.specs.Served.{IsLookServed, IsStatusServed, IsStopServed, IsSubmissionServed, ServesJob};
 
+use crate::listing::statuses;
 use crate::request::JobRequest;
-use crate::texts::{progress_text, submitted_text};
+use crate::texts::{progress_text, status_text, submitted_text};
 use catalog::Catalogue;
 use job_board::{Board, BoardFault, Posts};
 use job_forms::{Job, count};
@@ -55,10 +56,10 @@ fn look<R: Wait>(
     ensures serves { IsLookServed number pass.old pass.new result }
     ensures of { IsBoardPass board.now.turnstile.table pass.new }
 {
-    let Some(progress) = board.look(rt, pass, number) else {
+    let Some(status) = board.look(rt, pass, number) else {
         return Outcome::Plain(Plain::NotFound);
     };
-    match progress_text(alloc, number, &progress) {
+    match progress_text(alloc, number, &status.progress) {
         Ok(text) => Outcome::Job(text),
         Err(_) => Outcome::Plain(Plain::NoMemory),
     }
@@ -83,6 +84,27 @@ fn stop<R: Wait>(
     }
 }
 
+/// It is looked where a job stands, which is told in full.
+fn status<R: Wait>(
+    rt: &R,
+    alloc: Global,
+    board: &Board,
+    pass: &mut Pass<Posts>,
+    number: u64,
+) -> Outcome
+    requires of { IsBoardPass board.now.turnstile.table pass.old }
+    ensures serves { IsStatusServed number pass.old pass.new result }
+    ensures of { IsBoardPass board.now.turnstile.table pass.new }
+{
+    let Some(status) = board.look(rt, pass, number) else {
+        return Outcome::Plain(Plain::NotFound);
+    };
+    match status_text(alloc, number, &status) {
+        Ok(text) => Outcome::Job(text),
+        Err(_) => Outcome::Plain(Plain::NoMemory),
+    }
+}
+
 /// Serves a request for a job: a submission, a look or a stop makes its turns at the board, and the outcome is what they were answered.
 /// Where memory runs out, the outcome says so.
 pub fn serve_job<R: Wait>(
@@ -104,6 +126,8 @@ pub fn serve_job<R: Wait>(
         JobRequest::Unformed(fault) => Outcome::Unformed(fault),
         JobRequest::Look(number) => look(rt, alloc, board, pass, number),
         JobRequest::Stop(number) => stop(rt, alloc, board, pass, number),
+        JobRequest::Status(number) => status(rt, alloc, board, pass, number),
+        JobRequest::Statuses => statuses(rt, alloc, board, pass),
         JobRequest::NotFound => Outcome::Plain(Plain::NotFound),
         JobRequest::WrongMethod => Outcome::Plain(Plain::WrongMethod),
     }

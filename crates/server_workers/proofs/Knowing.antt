@@ -1,8 +1,8 @@
 -- What a place at the board knows of the jobs that were submitted from it.
-use Rattle.std.proofs.Common.{arith, ◌≡◌, ◌∙◌, ℕ, ◌≤◌, ◌-◌, inl, inr, ⊎_elim, Bool, List, [], ◌∷◌, ◌++◌, length, length-append, append-nil, Option, Some, None, sym, ap, subst}
+use Rattle.std.proofs.Common.{arith, ◌≡◌, ◌∙◌, ℕ, suc, ◌+◌, ◌≤◌, ◌-◌, inl, inr, ⊎_elim, Bool, List, [], ◌∷◌, ◌++◌, length, length-append, append-nil, Option, Some, None, sym, ap, subst}
 use Rattle.std.proofs.lemmas.List.Elements.{All-contains, Contains-append_cases}
 use Rattle.std.specs.List.{All, AllByRecursion, Contains}
-use Rattle.std.specs.Prelude.{MatchOption}
+use Rattle.std.specs.Prelude.{◌⊎◌, MatchOption}
 use Rattle.cabinet_chest.specs.declared.shown.Note as hall
 use Rattle.cache_hall.specs.Turned.{HallPass}
 use Rattle.catalog.specs.declared.catalogue.Catalogue.{Catalogue}
@@ -20,7 +20,8 @@ use Rattle.job_board.specs.Calls.{BoardHolding, MakesNone, MakesOne}
 use Rattle.job_requests.specs.declared.request.JobRequest.{JobRequest}
 use Rattle.job_requests.specs.declared.request.JobRequest.TheVariants as request
 use Rattle.job_requests.specs.Routes.{request_for}
-use Rattle.job_requests.specs.Served.{IsLookServed, ServesJob}
+use Rattle.job_requests.specs.Served.{AreAllJobs, AreLooks, IsLookServed, ServesJob}
+use Rattle.job_board.specs.declared.status.JobStatus.{JobStatus}
 use Rattle.seed_jobs.proofs.History.{turn_knows}
 use Rattle.tile_requests.specs.declared.outcome.Outcome.{Outcome}
 use Rattle.tile_requests.specs.declared.request.Request.{Request}
@@ -75,6 +76,18 @@ same_place before after same had = subst KnowsOwn (sym same) had
 after_look : (n : ℕ) (before after : BoardHolding) (o : Outcome) → IsLookServed n before after o → KnowsOwn before → KnowsOwn after
 after_look n before after o look had = one_more before after (command.Look n) (reply.Look look.0) look.2 had
 
+after_looks : (n : ℕ) (found : List JobStatus) (before after : BoardHolding) → AreLooks n found before after → KnowsOwn before → KnowsOwn after
+after_looks n [] before after same had = same_place before after same had
+after_looks n (s ∷ found) before after looks had = after_looks (suc n) found looks.0 after looks.2 (one_more before looks.0 (command.Look n) (reply.Look (Some s)) looks.1 had)
+
+after_all : (found : List JobStatus) (before after : BoardHolding) → AreAllJobs found before after → KnowsOwn before → KnowsOwn after
+after_all found before after (inl one) had = one_more before after (command.Look (length found + 1)) (reply.Look None) one had
+after_all found before after (inr same) had = same_place before after same.1 had
+
+after_statuses : (found : List JobStatus) (before between after : BoardHolding) (Told Untold : Type 0) → AreLooks 1 found before between → (AreAllJobs found between after × Told) ⊎ ((after ≡ between) × Untold) → KnowsOwn before → KnowsOwn after
+after_statuses found before between after Told Untold looks (inl all) had = after_all found between after all.0 (after_looks 1 found before between looks had)
+after_statuses found before between after Told Untold looks (inr none) had = same_place between after none.0 (after_looks 1 found before between looks had)
+
 after_request : (c : Catalogue) (r : JobRequest) (before after : BoardHolding) (o : Outcome) → ServesJob c r before after o → KnowsOwn before → KnowsOwn after
 after_request c (request.Submission job) before after o (inl one) had = one_more before after _ _ one.2 had
 after_request c (request.Submission job) before after o (inr none) had = none_more before after none.0 had
@@ -82,6 +95,8 @@ after_request c (request.Unformed fault) before after o none had = same_place be
 after_request c (request.Look n) before after o look had = after_look n before after o look had
 after_request c (request.Stop n) before after o (inl one) had = one_more before after _ _ one.0 had
 after_request c (request.Stop n) before after o (inr two) had = after_look n two.0 after o two.2 (one_more before two.0 _ _ two.1 had)
+after_request c (request.Status n) before after o look had = one_more before after (command.Look n) (reply.Look look.0) look.2 had
+after_request c request.Statuses before after o all had = after_statuses all.found before all.between after _ _ all.looks all.told had
 after_request c request.NotFound before after o none had = same_place before after none.0 had
 after_request c request.WrongMethod before after o none had = same_place before after none.0 had
 
