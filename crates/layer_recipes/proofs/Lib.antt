@@ -8,3 +8,4 @@ pub mod Sheets
 pub mod Texts
 pub mod Told
 pub mod Values
+pub mod Entering

@@ -5,3 +5,4 @@ pub mod OfCatalogue
 pub mod Outcome
 pub mod Overlaid
 pub mod Recipes
+pub mod Books

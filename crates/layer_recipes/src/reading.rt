@@ -27,7 +27,11 @@ macro_rules! member {
 
 /// The recipe of an object's members.
 #[tactic(auto, unfolding(crate::specs::Recipes::recipe_in))]
-fn recipe_in(alloc: Global, catalogue: &Catalogue, object: &Value) -> Result<Recipe, RecipeFault>
+pub fn recipe_in(
+    alloc: Global,
+    catalogue: &Catalogue,
+    object: &Value,
+) -> Result<Recipe, RecipeFault>
     requires { IsValid catalogue.now }
     ensures gives { Gives (λ recipe. (recipe.grid, recipe.parts.items)) result (recipe_in catalogue.now (view object.now)) }
     ensures of { IfOk result (IsRecipeOf catalogue.now) }

@@ -97,7 +97,7 @@ abbrev pub is_respelt : Spelling → Bool
 is_respelt Ppm = false
 is_respelt Png = true
 
--- the body of the response is a text that is made for it, which takes memory; a tile as a pixmap, the document and what was told already
+-- the body of the response is a text that is made for it, which takes memory; a tile or a composite as a pixmap, the document and what was told already
 -- lie ready
 abbrev pub is_made : Spelling → Outcome → Bool
 is_made spelling (outcome.Tile hit k text) = is_respelt spelling
@@ -110,6 +110,7 @@ is_made spelling (outcome.Cut number) = true
 is_made spelling (outcome.Unformed fault) = true
 is_made spelling (outcome.Dropped text) = false
 is_made spelling (outcome.Job text) = false
+is_made spelling (outcome.Composite numbers text) = is_respelt spelling
 
 -- what is answered: where no memory is left for the text that is to be made, that
 abbrev pub answered_at : Spelling → Bool → Outcome → Outcome

@@ -1,6 +1,6 @@
 -- The bytes of answers: responses after HTTP/1.1 (RFC 9112), the exception report of OWS Common 1.1 (OGC 06-121r3), and PNG (W3C, Portable
 -- Network Graphics, second edition).
-use Rattle.std.specs.Prelude.{ℕ, Bool, if◌then◌else◌, ◌==◌, ◌||◌, List, [], ◌∷◌, ◌++◌, length, Option, Some, None, codes, decimal}
+use Rattle.std.specs.Prelude.{ℕ, Bool, if◌then◌else◌, ◌==◌, ◌||◌, List, [], ◌∷◌, ◌++◌, length, Option, Some, None, codes, decimal, flat_map}
 use Rattle.exception_report.specs.declared.code.Code.TheVariants.{NoApplicableCode}
 use Rattle.exception_report.specs.declared.code.Locator.TheVariants.{Nowhere}
 use Rattle.exception_report.specs.Report.{report_of}
@@ -11,7 +11,7 @@ use Rattle.job_forms.specs.declared.fault.JobFault.TheVariants.{NotJson, Missing
 use Rattle.job_forms.specs.declared.fault.JobField.{JobField}
 use Rattle.job_forms.specs.declared.fault.JobField.TheVariants as field
 use Rattle.tile_requests.specs.declared.outcome.Outcome.{Outcome}
-use Rattle.tile_requests.specs.declared.outcome.Outcome.TheVariants.{Tile, Document, Refused, SourceFailed, Usage, Cut, Unformed, Dropped, Job, Plain}
+use Rattle.tile_requests.specs.declared.outcome.Outcome.TheVariants.{Tile, Document, Refused, SourceFailed, Usage, Cut, Unformed, Dropped, Job, Composite, Plain}
 use Rattle.tile_requests.specs.declared.outcome.Plain as constant
 use Rattle.tile_requests.specs.declared.outcome.Plain.TheVariants.{NotFound, WrongMethod, Spent, CutsFull, CutSpent, Within, BoardFull, DiskFault, NoMemory}
 use Rattle.tile_png.specs.Reading.{png_of_tile}
@@ -68,6 +68,15 @@ cache_result hit = if hit then codes "HIT" else codes "MISS"
 -- the headers of a tile
 abbrev pub tile_headers : Bool → ℕ → List ℕ
 tile_headers hit number = codes "geowebcache-cache-result: " ++ cache_result hit ++ codes "\r\ntile-render: " ++ decimal number ++ codes "\r\n"
+
+-- numbers with commas between them
+abbrev pub joined : List ℕ → List ℕ
+joined [] = []
+joined (n ∷ ns) = decimal n ++ flat_map (λ k. codes "," ++ decimal k) ns
+
+-- the header of a composite: the numbers of the renders of its parts, in their order
+abbrev pub composite_headers : List ℕ → List ℕ
+composite_headers numbers = codes "composite-renders: " ++ joined numbers ++ codes "\r\n"
 
 -- the header that closes a connection
 abbrev pub close_header : Bool → List ℕ
@@ -135,27 +144,27 @@ plain_parts BoardFull = json 409 (codes "{\"fault\":\"board full\"}\n")
 plain_parts DiskFault = json 500 (codes "{\"fault\":\"disk\"}\n")
 plain_parts NoMemory = bare 503
 
--- a tile, or a picture of it
-abbrev pub pictured : List ℕ → Bool → ℕ → List ℕ → ResponseParts
-pictured media_type hit number body = record { status = 200; media_type = media_type; headers = tile_headers hit number; body = body }
+-- a tile, or a picture of it, with these headers
+abbrev pub pictured : List ℕ → List ℕ → List ℕ → ResponseParts
+pictured media_type headers body = record { status = 200; media_type = media_type; headers = headers; body = body }
 
 -- an encoded tile as it is
-abbrev pub as_it_is : Bool → ℕ → List ℕ → ResponseParts
-as_it_is hit number text = pictured (codes "image/x-portable-pixmap") hit number text
+abbrev pub as_it_is : List ℕ → List ℕ → ResponseParts
+as_it_is headers text = pictured (codes "image/x-portable-pixmap") headers text
 
 -- a tile as PNG. Its text is a pixmap, unless bytes of it were changed where it is kept: then it is answered as it is
-abbrev pub png_parts : Bool → ℕ → List ℕ → Option (List ℕ) → ResponseParts
-png_parts hit number text (Some png) = pictured (codes "image/png") hit number png
-png_parts hit number text None = as_it_is hit number text
+abbrev pub png_parts : List ℕ → List ℕ → Option (List ℕ) → ResponseParts
+png_parts headers text (Some png) = pictured (codes "image/png") headers png
+png_parts headers text None = as_it_is headers text
 
 -- a tile as it is to be spelt
-abbrev pub tile_parts : Spelling → Bool → ℕ → List ℕ → ResponseParts
-tile_parts Ppm hit number text = as_it_is hit number text
-tile_parts Png hit number text = png_parts hit number text (png_of_tile text)
+abbrev pub tile_parts : Spelling → List ℕ → List ℕ → ResponseParts
+tile_parts Ppm headers text = as_it_is headers text
+tile_parts Png headers text = png_parts headers text (png_of_tile text)
 
 -- the parts of the response to a request with this outcome, where this is the capabilities document, and a tile is to be spelt so
 abbrev pub parts_of : List ℕ → Spelling → Outcome → ResponseParts
-parts_of document spelling (Tile hit number text) = tile_parts spelling hit number text
+parts_of document spelling (Tile hit number text) = tile_parts spelling (tile_headers hit number) text
 parts_of document spelling Document = typed 200 (codes "text/xml") document
 parts_of document spelling (Refused code locator) = typed (status_of code) (codes "text/xml") (report_of code locator)
 parts_of document spelling SourceFailed = typed 500 (codes "text/xml") (report_of NoApplicableCode Nowhere)
@@ -164,6 +173,7 @@ parts_of document spelling (Cut number) = json 200 (cut_text number)
 parts_of document spelling (Unformed fault) = json 400 (fault_text (fault_kind fault) (field_of fault))
 parts_of document spelling (Dropped text) = json 200 text
 parts_of document spelling (Job text) = json 200 text
+parts_of document spelling (Composite numbers text) = tile_parts spelling (composite_headers numbers.items) text
 parts_of document spelling (Plain p) = plain_parts p
 
 -- the bytes of that response, which closes its connection or does not

@@ -16,7 +16,7 @@ use Rattle.truncation_list.specs.declared.cover.Cover.{Cover}
 use Rattle.wmts_kvp.specs.declared.query.Query.{Query}
 use Rattle.wmts_kvp.specs.declared.query.Query.TheVariants as query
 use Rattle.wmts_kvp.specs.Reading.{query_reading}
-use Rattle.wmts_rest.specs.Paths.{path_reading, picture_reading}
+use Rattle.wmts_rest.specs.Paths.{before, path_reading, picture_reading}
 
 -- the path of a target is what stands before its first ? (63 in ASCII), and the query what stands after it
 abbrev pub path_of : List ℕ → List ℕ
@@ -71,9 +71,22 @@ request_for c m = request_at c m.method m.target m.body
 
 -- THE SPELLING
 
--- a tile is answered as PNG where the path begins with `/png/`, and as the pixmap that it is elsewhere
+-- as PNG where something stands before `.png`
+abbrev pub png_or_ppm : Option (List ℕ) → Spelling
+png_or_ppm None = Ppm
+png_or_ppm (Some rest) = Png
+
+-- by how a path ends
+abbrev pub by_ending : List ℕ → Spelling
+by_ending path = png_or_ppm (before (codes ".png") path)
+
+-- a tile is answered as PNG where the path begins with `/png/`, a composite where its path ends with `.png`, and both as the pixmap that they
+-- are elsewhere
 unfoldable pub spelling_at : List ℕ → Spelling
-spelling_at target = if starts_with nat_eq (path_of target) (codes "/png/") then Png else Ppm
+spelling_at target =
+    if starts_with nat_eq (path_of target) (codes "/png/") then Png else
+    (if starts_with nat_eq (path_of target) (codes "/composites/") then by_ending (path_of target) else
+    Ppm)
 
 -- how a tile is spelt in the response to a message
 abbrev pub spelling_of : Message → Spelling

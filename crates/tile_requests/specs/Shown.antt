@@ -8,8 +8,9 @@ use Rattle.tile_requests.specs.declared.parts.Body.TheVariants.{Borrowed, Made}
 use Rattle.tile_requests.specs.declared.parts.MediaType.{MediaType}
 use Rattle.tile_requests.specs.declared.parts.MediaType.TheVariants.{Ppm, Png, Xml, Json, Plain}
 use Rattle.tile_requests.specs.declared.parts.LentResponse.{LentResponse}
-use Rattle.tile_requests.specs.declared.parts.TileHeaders.{TileHeaders}
-use Rattle.tile_requests.specs.Response.{ResponseParts, tile_headers}
+use Rattle.tile_requests.specs.declared.parts.BodyHeaders.{BodyHeaders}
+use Rattle.tile_requests.specs.declared.parts.BodyHeaders.TheVariants as headers
+use Rattle.tile_requests.specs.Response.{ResponseParts, composite_headers, tile_headers}
 
 -- a message whose parts are borrowed; it counts as not the last of its connection
 abbrev pub shown_message : MessageRef → Message
@@ -29,10 +30,11 @@ abbrev pub media_type_text : Option MediaType → List ℕ
 media_type_text None = []
 media_type_text (Some media_type) = media_type_name media_type
 
--- the headers of a tile, where the body is one
-abbrev pub headers_text : Option TileHeaders → List ℕ
-headers_text None = []
-headers_text (Some tile) = tile_headers tile.hit tile.number
+-- the headers of a tile or of a composite, where the body is one
+abbrev pub headers_text : BodyHeaders → List ℕ
+headers_text headers.Plain = []
+headers_text (headers.Tile tile) = tile_headers tile.hit tile.number
+headers_text (headers.Composite numbers) = composite_headers numbers.now.items
 
 -- a body, wherever it lies
 abbrev pub body_text : Body → List ℕ
@@ -41,4 +43,4 @@ body_text (Made bytes) = bytes.items
 
 -- the parts of a response
 abbrev pub shown_parts : LentResponse → ResponseParts
-shown_parts p = record { status = p.status; media_type = media_type_text p.media_type; headers = headers_text p.tile; body = body_text p.body }
+shown_parts p = record { status = p.status; media_type = media_type_text p.media_type; headers = headers_text p.headers; body = body_text p.body }

@@ -33,7 +33,7 @@ pub use laws::laws_of_lone_threads;
 pub use message_ref::MessageRef;
 pub use numbers::push_number;
 pub use outcome::{Outcome, Plain};
-pub use parts::{Body, LentResponse, MediaType, TileHeaders};
+pub use parts::{Body, BodyHeaders, LentResponse, MediaType, TileHeaders};
 pub use request::{Mode, Request, outcome_of, outcome_of_get};
 pub use request_events::events;
 pub use response::{bare, parts_of};

@@ -1,4 +1,5 @@
 //! The outcomes of all requests.
+use arrayvec::ArrayVec;
 use base::SharedText;
 use exact_ratio::Words;
 use exception_report::{Code, Locator};
@@ -25,6 +26,8 @@ pub enum Outcome {
     Dropped(Words),
     /// What is told of a job of a server, as a JSON text.
     Job(Words),
+    /// An encoded tile of several parts, behind the number of the render of each part, in the order of the parts.
+    Composite(ArrayVec<u64, 8>, Words),
     /// What has one response, whatever was asked for.
     Plain(Plain),
 }

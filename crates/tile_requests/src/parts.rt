@@ -2,6 +2,8 @@
 ghost use Rattle.std.specs.Prelude.{◌≡◌, ◌≤◌, length};
 ghost use Rattle.tile_requests.specs.Shown.{body_text, media_type_name};
 
+use arrayvec::ArrayVec;
+
 /// The type of a body.
 #[derive(Clone, Copy, PartialEq, Eq)]
 pub enum MediaType {
@@ -48,6 +50,17 @@ impl<'a> Body<'a> {
     }
 }
 
+/// What the headers of a body tell beside its type and its length.
+#[derive(Clone, Copy)]
+pub enum BodyHeaders<'a> {
+    /// Nothing.
+    Plain,
+    /// Of a tile.
+    Tile(TileHeaders),
+    /// Of a tile of several parts: the number of the render of each, in their order.
+    Composite(&'a ArrayVec<u64, 8>),
+}
+
 /// What the headers of a tile tell.
 #[derive(Clone, Copy, PartialEq, Eq)]
 pub struct TileHeaders {
@@ -63,7 +76,7 @@ pub struct LentResponse<'a> {
     pub status: u16,
     /// The type of the body; none where there is no body.
     pub media_type: Option<MediaType>,
-    /// What is told of the tile, where the body is one.
-    pub tile: Option<TileHeaders>,
+    /// What is told beside that, as of a tile.
+    pub headers: BodyHeaders<'a>,
     pub body: Body<'a>,
 }

@@ -5,11 +5,11 @@ ghost use Rattle.exception_report.specs.Status.{status_of};
 ghost use Rattle.tile_png.specs.Reading.{png_of_tile};
 ghost use Rattle.tile_requests.specs.Requests.{is_made, is_respelt};
 ghost use Rattle.tile_requests.specs.Response.{bare, cut_text, fault_kind, fault_text, field_of, parts_of, pictured, plain_parts, png_parts, spelt, tile_parts, typed};
-ghost use Rattle.tile_requests.specs.Shown.{body_text, media_type_name, shown_parts};
+ghost use Rattle.tile_requests.specs.Shown.{body_text, headers_text, media_type_name, shown_parts};
 
 use crate::numbers::push_number;
 use crate::outcome::{Outcome, Plain};
-use crate::parts::{Body, LentResponse, MediaType, TileHeaders};
+use crate::parts::{Body, BodyHeaders, LentResponse, MediaType, TileHeaders};
 use crate::spelling::Spelling;
 use exception_report::{Code, Locator, report, status_of};
 use job_forms::{JobFault, JobField};
@@ -24,7 +24,7 @@ fn lend_response(status: u16, media_type: MediaType, body: &[u8]) -> LentRespons
     LentResponse {
         status,
         media_type: Some(media_type),
-        tile: None,
+        headers: BodyHeaders::Plain,
         body: Body::Borrowed(body),
     }
 }
@@ -36,7 +36,7 @@ fn response_of<'a>(status: u16, media_type: MediaType, body: Vec<u8>) -> LentRes
     LentResponse {
         status,
         media_type: Some(media_type),
-        tile: None,
+        headers: BodyHeaders::Plain,
         body: Body::Made(body),
     }
 }
@@ -48,19 +48,19 @@ pub fn bare<'a>(status: u16) -> LentResponse<'a>
     LentResponse {
         status,
         media_type: None,
-        tile: None,
+        headers: BodyHeaders::Plain,
         body: Body::Borrowed(b""),
     }
 }
 
-/// A tile, or a picture of it.
-fn pictured(media_type: MediaType, tile: TileHeaders, body: Body<'_>) -> LentResponse<'_>
-    ensures { shown_parts result ≡ pictured (media_type_name media_type) tile.hit tile.number (body_text body.entry) }
+/// A tile, or a picture of it, with these headers.
+fn pictured<'a>(media_type: MediaType, headers: BodyHeaders<'a>, body: Body<'a>) -> LentResponse<'a>
+    ensures { shown_parts result ≡ pictured (media_type_name media_type) (headers_text headers.entry) (body_text body.entry) }
 {
     LentResponse {
         status: 200,
         media_type: Some(media_type),
-        tile: Some(tile),
+        headers,
         body,
     }
 }
@@ -69,14 +69,14 @@ fn pictured(media_type: MediaType, tile: TileHeaders, body: Body<'_>) -> LentRes
 fn png<'a>(
     alloc: Global,
     tables: &CrcTables,
-    tile: TileHeaders,
+    headers: BodyHeaders<'a>,
     text: &'a [u8],
 ) -> Result<LentResponse<'a>, AllocError>
-    ensures { IfOk result (λ p. shown_parts p ≡ png_parts tile.hit tile.number text.now (png_of_tile text.now)) }
+    ensures { IfOk result (λ p. shown_parts p ≡ png_parts (headers_text headers.entry) text.now (png_of_tile text.now)) }
 {
     match png_of_tile(alloc, tables, text)? {
-        Some(png) => Ok(pictured(MediaType::Png, tile, Body::Made(png))),
-        None => Ok(pictured(MediaType::Ppm, tile, Body::Borrowed(text))),
+        Some(png) => Ok(pictured(MediaType::Png, headers, Body::Made(png))),
+        None => Ok(pictured(MediaType::Ppm, headers, Body::Borrowed(text))),
     }
 }
 
@@ -85,15 +85,15 @@ fn tile<'a>(
     alloc: Global,
     tables: &CrcTables,
     spelling: Spelling,
-    tile: TileHeaders,
+    headers: BodyHeaders<'a>,
     text: &'a [u8],
 ) -> Result<LentResponse<'a>, AllocError>
-    ensures parts { IfOk result (λ p. shown_parts p ≡ tile_parts spelling tile.hit tile.number text.now) }
+    ensures parts { IfOk result (λ p. shown_parts p ≡ tile_parts spelling (headers_text headers.entry) text.now) }
     ensures made { OnErr result (is_respelt spelling ≡ true) }
 {
     match spelling {
-        Spelling::Ppm => Ok(pictured(MediaType::Ppm, tile, Body::Borrowed(text))),
-        Spelling::Png => png(alloc, tables, tile, text),
+        Spelling::Ppm => Ok(pictured(MediaType::Ppm, headers, Body::Borrowed(text))),
+        Spelling::Png => png(alloc, tables, headers, text),
     }
 }
 
@@ -194,7 +194,7 @@ fn plain_parts<'a>(plain: Plain) -> LentResponse<'a>
 }
 
 /// The parts of the response to a request with this outcome, where `document` is the capabilities document, and a tile is to be spelt so. A
-/// tile as the pixmap that it is, the document and a text that was told are borrowed, and take no memory. `AllocError` where it runs out
+/// tile or a composite as the pixmap that it is, the document and a text that was told are borrowed, and take no memory. `AllocError` where it runs out
 /// for another body.
 pub fn parts_of<'a>(
     alloc: Global,
@@ -212,6 +212,16 @@ pub fn parts_of<'a>(
                 hit: *hit,
                 number: *number,
             };
+            tile(
+                alloc,
+                tables,
+                spelling,
+                BodyHeaders::Tile(headers),
+                text.bytes(),
+            )
+        }
+        Outcome::Composite(numbers, text) => {
+            let headers = BodyHeaders::Composite(numbers);
             tile(alloc, tables, spelling, headers, text.bytes())
         }
         Outcome::Document => Ok(lend_response(200, MediaType::Xml, document)),

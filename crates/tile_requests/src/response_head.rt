@@ -1,10 +1,10 @@
 //! The head of a response. It takes no memory.
-ghost use Rattle.std.specs.Prelude.{◌≡◌, ◌+◌, ◌≤◌, ◌++◌, length};
+ghost use Rattle.std.specs.Prelude.{◌≡◌, ◌+◌, ◌*◌, ◌≤◌, ◌++◌, codes, decimal, flat_map, length};
 ghost use Rattle.arrayvec.specs.ArrayVec.{array_vec_len};
-ghost use Rattle.tile_requests.specs.Response.{cache_result, close_header, head_text, status_text, tile_headers, type_header};
+ghost use Rattle.tile_requests.specs.Response.{cache_result, close_header, composite_headers, head_text, joined, status_text, tile_headers, type_header};
 ghost use Rattle.tile_requests.specs.Shown.{headers_text, media_type_text, shown_parts};
 
-use crate::parts::{LentResponse, MediaType, TileHeaders};
+use crate::parts::{BodyHeaders, LentResponse, MediaType};
 use crate::small_text::{add, add_number};
 use arrayvec::ArrayVec;
 
@@ -74,15 +74,64 @@ fn add_tile_headers(text: &mut ArrayVec<u8, 1024>, hit: bool, number: u64)
     add(text, b"\r\n");
 }
 
-/// Adds the headers of a tile, where the body is one.
-fn add_tile(text: &mut ArrayVec<u8, 1024>, tile: Option<TileHeaders>)
-    requires { array_vec_len text.old ≤ 700 }
-    ensures items { text.new.items ≡ text.old.items ++ headers_text tile }
-    ensures len { array_vec_len text.new ≤ array_vec_len text.old + 70 }
+/// Adds numbers, a comma in front of each.
+fn add_further(text: &mut ArrayVec<u8, 1024>, numbers: &[u64])
+    requires { array_vec_len text.old + 21 * length numbers.now ≤ 1024 }
+    ensures items { text.new.items ≡ text.old.items ++ flat_map (λ k. codes "," ++ decimal k) numbers.now }
+    ensures len { array_vec_len text.new ≤ array_vec_len text.old + 21 * length numbers.now }
 {
-    match tile {
-        None => {}
-        Some(headers) => add_tile_headers(text, headers.hit, headers.number),
+    for number in numbers {
+        add(text, b",");
+        add_number(text, *number);
+    }
+}
+
+/// Adds numbers with commas between them.
+fn add_joined(text: &mut ArrayVec<u8, 1024>, numbers: &[u64])
+    requires { array_vec_len text.old + 21 * length numbers.now ≤ 1024 }
+    ensures items { text.new.items ≡ text.old.items ++ joined numbers.now }
+    ensures len { array_vec_len text.new ≤ array_vec_len text.old + 21 * length numbers.now }
+{
+    match numbers {
+        [] => {}
+        [first, rest @ ..] => {
+            add_number(text, *first);
+            add_further(text, rest);
+        }
+    }
+}
+
+/// Adds the header of a tile of several parts: the numbers of their renders.
+fn add_composite_headers(text: &mut ArrayVec<u8, 1024>, numbers: &[u64])
+    requires room { array_vec_len text.old ≤ 700 }
+    requires few { length numbers.now ≤ 8 }
+    ensures items { text.new.items ≡ text.old.items ++ composite_headers numbers.now }
+    ensures len { array_vec_len text.new ≤ array_vec_len text.old + 190 }
+{
+    add(text, b"composite-renders: ");
+    add_joined(text, numbers);
+    add(text, b"\r\n");
+}
+
+/// The numbers of a tile of several parts, of which there are 8 at most.
+fn numbers_of(numbers: &ArrayVec<u64, 8>) -> &[u64]
+    ensures items { result.now ≡ numbers.now.items }
+    ensures few { length result.now ≤ 8 }
+{
+    let _count = numbers.len();
+    numbers.as_slice()
+}
+
+/// Adds what is told beside the type and the length of a body.
+fn add_headers(text: &mut ArrayVec<u8, 1024>, headers: BodyHeaders<'_>)
+    requires { array_vec_len text.old ≤ 700 }
+    ensures items { text.new.items ≡ text.old.items ++ headers_text headers.entry }
+    ensures len { array_vec_len text.new ≤ array_vec_len text.old + 190 }
+{
+    match headers {
+        BodyHeaders::Plain => {}
+        BodyHeaders::Tile(tile) => add_tile_headers(text, tile.hit, tile.number),
+        BodyHeaders::Composite(numbers) => add_composite_headers(text, numbers_of(numbers)),
     }
 }
 
@@ -102,7 +151,7 @@ fn close_header(closes: bool) -> &'static [u8]
 #[tactic(auto, unfolding(crate::specs::Response::head_text))]
 pub fn head(closes: bool, parts: &LentResponse<'_>) -> ArrayVec<u8, 1024>
     ensures items { result.items ≡ head_text closes (shown_parts parts.now) }
-    ensures short { array_vec_len result ≤ 256 }
+    ensures short { array_vec_len result ≤ 400 }
 {
     let body = parts.body.bytes();
     let mut text = ArrayVec::new();
@@ -113,7 +162,7 @@ pub fn head(closes: bool, parts: &LentResponse<'_>) -> ArrayVec<u8, 1024>
     add(&mut text, b"Content-Length: ");
     add_number(&mut text, body.len() as u64);
     add(&mut text, b"\r\n");
-    add_tile(&mut text, parts.tile);
+    add_headers(&mut text, parts.headers);
     add(&mut text, close_header(closes));
     add(&mut text, b"\r\n");
     text

@@ -1,14 +1,14 @@
 //! The table of paths: where a message leads by its method and path, and what it asks for there.
 ghost use Rattle.std.specs.List.{prefix_len};
-ghost use Rattle.std.specs.Prelude.{◌≡◌, ◌≤◌, ◌==◌, length, not, IfOk, IfSome};
+ghost use Rattle.std.specs.Prelude.{◌≡◌, ◌≤◌, ◌==◌, codes, length, not, option_copied, IfOk, IfSome};
 ghost use Rattle.catalog.specs.Valid.{IsValid};
 ghost use Rattle.catalog.specs.declared.catalogue.Catalogue.{Catalogue};
 ghost use Rattle.job_forms.specs.Cover.{cover_of};
 ghost use Rattle.tile_requests.specs.Requests.{IsOf};
-ghost use Rattle.tile_requests.specs.Routes.{path_of, query_of, by_get, by_post, request_of, request_or_none, truncation_of, request_for, spelling_at};
+ghost use Rattle.tile_requests.specs.Routes.{path_of, query_of, by_ending, by_get, by_post, request_of, request_or_none, truncation_of, request_for, spelling_at};
 ghost use Rattle.tile_requests.specs.Shown.{shown_message};
 ghost use Rattle.wmts_kvp.specs.Reading.{IsOfCatalogue, query_reading};
-ghost use Rattle.wmts_rest.specs.Paths.{path_reading, picture_reading};
+ghost use Rattle.wmts_rest.specs.Paths.{before, path_reading, picture_reading};
 
 use crate::message_ref::MessageRef;
 use crate::request::Request;
@@ -220,13 +220,34 @@ pub fn read_request(
     Ok(Request::NotFound)
 }
 
+/// What stands before `.png`, where a path ends so.
+fn before_png(path: &[u8]) -> Option<&[u8]>
+    ensures { option_copied result ≡ before (codes ".png") path.now }
+{
+    path.strip_suffix(b".png")
+}
+
+/// How a composite is spelt in the response to a message for this path.
+fn by_ending(path: &[u8]) -> Spelling
+    ensures { result ≡ by_ending path.now }
+{
+    match before_png(path) {
+        Some(_) => Spelling::Png,
+        None => Spelling::Ppm,
+    }
+}
+
 /// How a tile is spelt in the response to a message for this target.
 #[tactic(auto, unfolding(crate::specs::Routes::spelling_at))]
 pub fn spelling_at(target: &[u8]) -> Spelling
     ensures { result ≡ spelling_at target.now }
 {
-    if path_of(target).starts_with(b"/png/") {
+    let path = path_of(target);
+    if path.starts_with(b"/png/") {
         return Spelling::Png;
+    }
+    if path.starts_with(b"/composites/") {
+        return by_ending(path);
     }
     Spelling::Ppm
 }
