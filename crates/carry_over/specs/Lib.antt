@@ -1,0 +1,4 @@
+pub mod Chosen
+pub mod Copied
+pub mod Taken
+pub mod Planned
