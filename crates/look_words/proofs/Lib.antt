@@ -1,0 +1,4 @@
+mod Seeing
+mod Telling
+mod Writing
+mod Complete
