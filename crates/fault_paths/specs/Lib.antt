@@ -1,0 +1,4 @@
+pub mod Fields
+pub mod Fitting
+pub mod Paths
+pub mod Unknown
