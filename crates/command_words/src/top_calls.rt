@@ -1,6 +1,6 @@
 //! The top call that words are for.
 ghost use Rattle.std.specs.Prelude.{◌≡◌};
-ghost use Rattle.command_words.specs.TopCalls.{first_word, one_word, top_call};
+ghost use Rattle.command_words.specs.TopCalls.{first_word, one_word, top_call, two_words};
 
 use exact_ratio::Words;
 
@@ -10,6 +10,8 @@ use exact_ratio::Words;
 pub enum TopCall {
     /// The help text is printed.
     Help,
+    /// The help text of the first word is printed.
+    WordHelp,
     /// The version is printed.
     Version,
     /// Connections at a port are served on the cache of the disk (`serve_words`).
@@ -22,6 +24,12 @@ pub enum TopCall {
     Twin,
     /// A leader or a follower is run over a connection.
     Link,
+    /// What is kept under another catalogue is taken over.
+    Carry,
+    /// The files, what is kept, or what a job would do is told, and nothing is changed.
+    Look,
+    /// The sums of what is kept are written anew.
+    Seal,
     /// A command runs once (`word_of`), or the words are none.
     Command,
 }
@@ -42,6 +50,14 @@ fn first_word(word: &[u8]) -> TopCall
         TopCall::Link
     } else if word == b"follow".as_slice() {
         TopCall::Link
+    } else if word == b"carry".as_slice() {
+        TopCall::Carry
+    } else if word == b"check".as_slice() {
+        TopCall::Look
+    } else if word == b"list".as_slice() {
+        TopCall::Look
+    } else if word == b"seal".as_slice() {
+        TopCall::Seal
     } else {
         TopCall::Command
     }
@@ -60,6 +76,22 @@ fn one_word(word: &[u8]) -> TopCall
     }
 }
 
+/// The top call that two words are for.
+fn two_words(word: &[u8], after: &[u8]) -> TopCall
+    ensures { result ≡ two_words word.now after.now }
+{
+    if after == b"--help".as_slice() {
+        return TopCall::WordHelp;
+    }
+    if after == b"--dry-run".as_slice() {
+        if word == b"job".as_slice() {
+            return TopCall::Look;
+        }
+        return first_word(word);
+    }
+    first_word(word)
+}
+
 /// The top call that words are for; `Command` where no other is.
 pub fn top_call(words: &[Words]) -> TopCall
     ensures { result ≡ top_call words.now }
@@ -67,6 +99,7 @@ pub fn top_call(words: &[Words]) -> TopCall
     match words {
         [] => TopCall::Command,
         [word] => one_word(word.bytes()),
+        [word, after] => two_words(word.bytes(), after.bytes()),
         [word, ..] => first_word(word.bytes()),
     }
 }

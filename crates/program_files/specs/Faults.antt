@@ -13,4 +13,4 @@ faults_of (Stdin stdin) = stdin.faults
 abbrev pub faults_of_disk : CacheDisk → ℕ
 faults_of_disk (FileOfCache file) = file.faults
 faults_of_disk (Absent faults) = faults
-faults_of_disk (Shut faults) = faults
+faults_of_disk (Shut faults fault) = faults

@@ -6,8 +6,8 @@ ghost use Rattle.disk_model.specs.Images.{silent};
 ghost use Rattle.program_files.specs.Faults.{faults_of_disk};
 
 use base::one_more;
-use disk_model::{BlobPart, Disk, Failed, FileDisk};
-use std::fs::{File, OpenOptions};
+use disk_model::{BlobPart, Disk, Failed, FileCall, FileDisk, FileFault};
+use std::fs::{File, OpenOptions, TryLockError};
 use std::io;
 use std::io::ErrorKind;
 use std::rt::Files;
@@ -22,23 +22,72 @@ pub enum CacheDisk {
     File(FileDisk),
     /// It isn't there: it reads as a file of no bytes, of which there is nothing to sync, and takes none. It has failed so often.
     Absent(u64),
-    /// It is there, or is to be made, and can't be opened, or another program works on it: each call fails. It has failed so often.
-    Shut(u64),
+    /// It is there, or is to be made, and can't be opened, or another program works on it, as the fault says: each call fails. It has failed
+    /// so often.
+    Shut(u64, FileFault),
 }
 
-/// Opens a file for reading and writing, for this program alone, and makes it where that is asked for and it isn't there. That it is
-/// there is then durable.
-fn open_file<R: Files<File = File>>(rt: &R, path: &str, makes: bool) -> io::Result<File> {
-    let file = OpenOptions::new()
+/// Why a file isn't opened.
+enum Unopened {
+    /// It isn't there, and is not to be made.
+    Absent,
+    /// The system refused this.
+    Refused(FileFault),
+}
+
+impl Unopened {
+    /// A call of a file that the system refused, before it is open.
+    fn refused(call: FileCall, error: &io::Error) -> Unopened {
+        Unopened::Refused(FileFault::of(call, 0, error))
+    }
+
+    /// Another program works on the file, of which the system tells no error.
+    fn in_use() -> Unopened {
+        Unopened::Refused(FileFault {
+            call: FileCall::Lock,
+            at: 0,
+            code: None,
+        })
+    }
+}
+
+/// Opens a file for reading and writing, and makes it where that is asked for and it isn't there.
+fn open_file<R: Files<File = File>>(rt: &R, path: &str, makes: bool) -> Result<File, Unopened> {
+    let opened = OpenOptions::new()
         .read(true)
         .write(true)
         .create(makes)
-        .open(rt, path)?;
-    if file.try_lock().is_err() {
-        return Err(io::Error::from(ErrorKind::WouldBlock));
+        .open(rt, path);
+    match opened {
+        Ok(file) => Ok(file),
+        Err(error) if error.kind() == ErrorKind::NotFound && !makes => Err(Unopened::Absent),
+        Err(error) => Err(Unopened::refused(FileCall::Open, &error)),
     }
+}
+
+/// Has a file for this program alone.
+fn lock_file(file: &File) -> Result<(), Unopened> {
+    match file.try_lock() {
+        Ok(()) => Ok(()),
+        Err(TryLockError::WouldBlock) => Err(Unopened::in_use()),
+        Err(TryLockError::Error(error)) => Err(Unopened::refused(FileCall::Lock, &error)),
+    }
+}
+
+/// Has it durable that a file which was made is in the current folder.
+fn sync_folder<R: Files<File = File>>(rt: &R) -> Result<(), Unopened> {
+    match File::open(rt, ".").and_then(|folder| folder.sync_all()) {
+        Ok(()) => Ok(()),
+        Err(error) => Err(Unopened::refused(FileCall::Sync, &error)),
+    }
+}
+
+/// Opens a file for this program alone. That it is there is then durable.
+fn open_alone<R: Files<File = File>>(rt: &R, path: &str, makes: bool) -> Result<File, Unopened> {
+    let file = open_file(rt, path, makes)?;
+    lock_file(&file)?;
     if makes {
-        File::open(rt, ".")?.sync_all()?;
+        sync_folder(rt)?;
     }
     Ok(file)
 }
@@ -46,10 +95,27 @@ fn open_file<R: Files<File = File>>(rt: &R, path: &str, makes: bool) -> io::Resu
 impl CacheDisk {
     /// Opens the file of this name in the current folder; `makes` says whether it is made where it isn't there.
     pub fn open<R: Files<File = File>>(rt: &R, path: &str, makes: bool) -> CacheDisk {
-        match open_file(rt, path, makes) {
+        match open_alone(rt, path, makes) {
             Ok(file) => CacheDisk::File(FileDisk::new(file, HEADERS)),
-            Err(error) if error.kind() == ErrorKind::NotFound && !makes => CacheDisk::Absent(0),
-            Err(_) => CacheDisk::Shut(0),
+            Err(Unopened::Absent) => CacheDisk::Absent(0),
+            Err(Unopened::Refused(fault)) => CacheDisk::Shut(0, fault),
+        }
+    }
+
+    /// The call that failed last, and what the system said of it; `None` where none has failed, or the file isn't there.
+    pub fn last_fault(&self) -> Option<FileFault> {
+        match self {
+            CacheDisk::File(file) => file.last_fault(),
+            CacheDisk::Absent(_) => None,
+            CacheDisk::Shut(_, fault) => Some(*fault),
+        }
+    }
+
+    /// Whether another program works on the file.
+    pub fn is_in_use(&self) -> bool {
+        match self {
+            CacheDisk::File(_) | CacheDisk::Absent(_) => false,
+            CacheDisk::Shut(_, fault) => fault.call == FileCall::Lock && fault.code.is_none(),
         }
     }
 }
@@ -78,7 +144,7 @@ impl Disk for CacheDisk {
                 into.fill(0);
                 Ok(())
             }
-            CacheDisk::Shut(faults) => failed(faults),
+            CacheDisk::Shut(faults, _) => failed(faults),
         }
     }
 
@@ -86,7 +152,7 @@ impl Disk for CacheDisk {
         match self {
             CacheDisk::File(file) => file.read_of(part, at, into),
             CacheDisk::Absent(faults) => failed(faults),
-            CacheDisk::Shut(faults) => failed(faults),
+            CacheDisk::Shut(faults, _) => failed(faults),
         }
     }
 
@@ -94,7 +160,7 @@ impl Disk for CacheDisk {
         match self {
             CacheDisk::File(file) => file.write_at(at, bytes),
             CacheDisk::Absent(faults) => failed(faults),
-            CacheDisk::Shut(faults) => failed(faults),
+            CacheDisk::Shut(faults, _) => failed(faults),
         }
     }
 
@@ -108,7 +174,7 @@ impl Disk for CacheDisk {
         match self {
             CacheDisk::File(file) => file.write_of(part, piece, at, bytes),
             CacheDisk::Absent(faults) => failed(faults),
-            CacheDisk::Shut(faults) => failed(faults),
+            CacheDisk::Shut(faults, _) => failed(faults),
         }
     }
 
@@ -116,7 +182,7 @@ impl Disk for CacheDisk {
         match self {
             CacheDisk::File(file) => file.cut(length),
             CacheDisk::Absent(faults) => failed(faults),
-            CacheDisk::Shut(faults) => failed(faults),
+            CacheDisk::Shut(faults, _) => failed(faults),
         }
     }
 
@@ -124,14 +190,14 @@ impl Disk for CacheDisk {
         match self {
             CacheDisk::File(file) => file.sync(),
             CacheDisk::Absent(_) => Ok(()),
-            CacheDisk::Shut(faults) => failed(faults),
+            CacheDisk::Shut(faults, _) => failed(faults),
         }
     }
 
     fn fault_count(&self) -> u64 {
         match self {
             CacheDisk::File(file) => file.fault_count(),
-            CacheDisk::Absent(faults) | CacheDisk::Shut(faults) => *faults,
+            CacheDisk::Absent(faults) | CacheDisk::Shut(faults, _) => *faults,
         }
     }
 }

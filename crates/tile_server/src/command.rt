@@ -1,31 +1,56 @@
 //! The words of a command that runs once.
 ghost use Rattle.std.specs.Prelude.{◌<◌};
 
-use crate::cache::{Cache, open_cache, tell_unfit, without_sums};
-use crate::{CAPABILITIES, CELLS, CatalogueInput, catalogue_of, exit_code, without_source};
+use crate::cache::{no_cache, open_cache, tell_unfit};
+use crate::endings::{WorkedFile, end_with};
+use crate::job_input::{JobInput, read_ahead};
+use crate::{CACHE, CAPABILITIES, CELLS, CatalogueInput, catalogue_of, exit_code, without_source};
 use base::Clock;
 use command_status::Status;
 use command_words::{UpkeepWord, Word, word_of};
 use exact_ratio::Words;
 use http_wire::{FileSource, StdinSource, StdoutSink};
-use program_files::{CacheDisk, Input};
+use program_files::{CountedSource, Input, Watch, WatchedCache};
+use std::alloc::AllocError;
 use std::fs::File;
-use std::io::Eprint;
+use std::io::{Eprint, IsTerminal};
 use std::net::Net;
 use std::process::ExitCode;
 use std::rt::Files;
 use std::sync::Wait;
 use tile_command::run_command;
 
-/// The cache's file, opened for the words that work on it, and made by those that make it.
-fn cache_for(rt: &(impl Files<File = File> + Eprint), words: &[Words], grain: u32) -> Cache
+/// The cache's file, opened for the words that work on it, and made by those that make it. How far a long opening is, is told where somebody
+/// looks on.
+fn cache_for(
+    rt: HostRuntime,
+    words: &[Words],
+    grain: u32,
+    is_watched: bool,
+) -> WatchedCache<HostRuntime>
     requires { 8 < grain }
 {
+    let watch = Watch {
+        faults: false,
+        opening: is_watched,
+    };
     match word_of(words) {
-        Some(Word::Kept(_)) | Some(Word::Job) => open_cache(rt, false, grain),
-        Some(Word::Upkeep(word)) => open_cache(rt, word == UpkeepWord::Make, grain),
-        Some(Word::InMemory(_)) | None => without_sums(CacheDisk::Absent(0), grain),
+        Some(Word::Kept(_)) | Some(Word::Job) => open_cache(rt, false, grain, watch),
+        Some(Word::Upkeep(word)) => open_cache(rt, word == UpkeepWord::Make, grain, watch),
+        Some(Word::InMemory(_)) | None => no_cache(rt, grain),
     }
+}
+
+/// Standard input, with the places of its job where somebody looks on.
+fn input_for(rt: HostRuntime, words: &[Words], is_watched: bool) -> Result<JobInput, AllocError> {
+    let stdin = StdinSource::new(rt.stdin());
+    if is_watched && word_of(words) == Some(Word::Job) {
+        return read_ahead(&rt, stdin);
+    }
+    Ok(JobInput {
+        input: Input::Stdin(stdin),
+        places: None,
+    })
 }
 
 /// Whether the words are for work that renders.
@@ -50,13 +75,17 @@ where
         Ok(catalogue) => catalogue,
         Err(fault) => return without_source(&rt, fault),
     };
-    let Ok(mut source) = choice.of_a_run(waiting, CELLS, source) else {
+    let is_watched = rt.stderr().is_terminal();
+    let Ok(source) = choice.of_a_run(waiting, CELLS, source) else {
         return exit_code(&rt, Status::OutOfMemory);
     };
+    let Ok(JobInput { mut input, places }) = input_for(rt, words, is_watched) else {
+        return exit_code(&rt, Status::OutOfMemory);
+    };
+    let mut source = CountedSource::new(rt, source, places);
     let mut capabilities = Input::File(FileSource::open(&rt, CAPABILITIES));
-    let mut input = Input::Stdin(StdinSource::new(rt.stdin()));
     let mut output = StdoutSink::new(rt.stdout());
-    let mut disk = cache_for(&rt, words, grain);
+    let mut disk = cache_for(rt, words, grain, is_watched);
     let status = run_command(
         rt.alloc(),
         words,
@@ -68,6 +97,6 @@ where
         &mut disk,
         Clock::system(rt),
     );
-    tell_unfit(&rt, &disk);
-    exit_code(&rt, status)
+    tell_unfit(&rt, &disk.files);
+    end_with(&rt, status, &[WorkedFile::of(CACHE, &disk.files.disk)])
 }

@@ -1,4 +1,5 @@
 //! The word `compose`: tiles of several layers, laid over each other.
+use crate::endings::end_with;
 use crate::{CELLS, CatalogueInput, catalogue_of, exit_code, without_source};
 use base::Clock;
 use command_status::Status;
@@ -15,12 +16,15 @@ use std::sync::Wait;
 
 /// Tells the end of a composition on standard error, `Done` apart, and gives its code. A standard error that takes nothing changes
 /// nothing.
-fn compose_ended(rt: &impl Eprint, end: ComposeEnd) -> ExitCode {
-    let code = end.code();
-    if code != 0 {
-        let _ = eprintln!(rt; "{end}");
+fn compose_ended(
+    rt: &(impl Files<File = File> + Eprint + AllocGlobal),
+    end: ComposeEnd,
+) -> ExitCode {
+    if let Some(status) = end.status() {
+        return end_with(rt, status, &[]);
     }
-    ExitCode::from(code)
+    let _ = eprintln!(rt; "{end}");
+    ExitCode::from(end.code())
 }
 
 /// Does what the word says. `waiting` is the same runtime, for a source that waits for a renderer.

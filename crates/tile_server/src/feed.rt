@@ -1,5 +1,6 @@
 //! The words of a feed: numbered changes, each made once on the cache.
-use crate::{CACHE, CATALOGUE, MARKS, exit_code};
+use crate::endings::{WorkedFile, end_with};
+use crate::{CACHE, CATALOGUE, MARKS};
 use base::Clock;
 use exact_ratio::Words;
 use feed_words::{FeedWord, feed_word, run_feed};
@@ -42,5 +43,6 @@ pub fn feed(rt: HostRuntime, words: &[Words]) -> ExitCode {
         &mut disk,
         &mut marks,
     );
-    exit_code(&rt, status)
+    let files = [WorkedFile::of(CACHE, &disk), WorkedFile::of(MARKS, &marks)];
+    end_with(&rt, status, &files)
 }

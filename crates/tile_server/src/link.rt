@@ -1,4 +1,5 @@
 //! The words of a link: a leader's posts go over a connection, or the changes that come over one are made on the cache.
+use crate::endings::{WorkedFile, end_with};
 use crate::{CACHE, CATALOGUE, MARKS, OUTBOX, exit_code, status_of_error};
 use base::Clock;
 use exact_ratio::Words;
@@ -42,12 +43,18 @@ fn leaders_file(rt: &impl Files<File = File>, word: Option<LinkWord>) -> CacheDi
 
 /// Tells the end of a link on standard error, that it finished apart, and gives its code. A standard error that takes nothing changes
 /// nothing.
-fn link_ended(rt: &impl Eprint, end: LinkingEnd) -> ExitCode {
-    let code = end.code();
-    if code != 0 {
-        let _ = eprintln!(rt; "{end}");
+fn link_ended(
+    rt: &(impl Files<File = File> + Eprint + AllocGlobal),
+    end: LinkingEnd,
+    files: &[WorkedFile],
+) -> ExitCode {
+    match end {
+        LinkingEnd::Status(status) => end_with(rt, status, files),
+        LinkingEnd::Linked(_) => {
+            let _ = eprintln!(rt; "{end}");
+            ExitCode::from(end.code())
+        }
     }
-    ExitCode::from(code)
 }
 
 /// Does what the words of a link say. The connection is made first, so that a leader that waits for a follower has no file open.
@@ -71,5 +78,10 @@ pub fn link(rt: HostRuntime, words: &[Words]) -> ExitCode {
         &mut marks,
         &mut outbox,
     );
-    link_ended(&rt, end)
+    let files = [
+        WorkedFile::of(CACHE, &disk),
+        WorkedFile::of(MARKS, &marks),
+        WorkedFile::of(OUTBOX, &outbox),
+    ];
+    link_ended(&rt, end, &files)
 }

@@ -1,7 +1,8 @@
 //! The program `tile_server`, a cache of map tiles: it hands the words, files and streams of the process to the top call that the words are
 //! for (`top_call` of command_words), and tells how that ended. `command` hands them to `run_command` of tile_command, `serve` to `run_server`
 //! of server_command, with a listening socket, `feed` to `run_feed` of feed_words, `compose` to `run_compose` of compose_words, `twin` to
-//! `run_twin` of twin_words, and `link` to `run_link` of link_words, with a connection.
+//! `run_twin` of twin_words, and `link` to `run_link` of link_words, with a connection. `look` hands the words that change nothing to `run_check`,
+//! `run_list` and `run_dry_run` of look_words.
 //!
 //! Promises: none that a clause says; this is the trusted edge. What the command does is promised there.
 //! Stands on tile_command, server_command, feed_words, compose_words, twin_words and link_words, and on the crates whose files, streams and
@@ -9,15 +10,22 @@
 #![tactic(auto)]
 
 mod cache;
+mod carry;
 mod command;
 mod compose;
+mod endings;
 mod feed;
+mod help;
+mod job_input;
 mod link;
+mod look;
 mod serve;
 mod twin;
 
 ghost use Rattle.std.specs.Prelude.{◌<◌, IfOk};
 
+use crate::endings::end_with;
+use crate::help::{HELP, help_of};
 use base::Clock;
 use command_setup::{CATALOGUE_LIMIT, source_number};
 use command_status::Status;
@@ -32,60 +40,6 @@ use std::process::ExitCode;
 use std::rt::{Env, Files};
 use std::{env, io};
 use tile_grain::grain_of;
-
-const HELP: &str = "tile_server: a cache of map tiles (the tile part of OGC WMTS 1.0.0)
-
-tile_server schedule < LINES         runs the lines of a schedule on a cabinet in memory, and writes the answers
-tile_server replay < BYTES           serves the bytes as those of one connection on such a cabinet, and writes the responses
-tile_server drill NUMBER             runs 4096 lines that the number makes on such a cabinet, and writes a summary
-tile_server make                     makes an empty cache, whatever stood in its file
-tile_server schedule --kept < LINES  runs the lines on that cache
-tile_server replay --kept < BYTES    serves the bytes on that cache
-tile_server truncate < COVER         makes one truncation, of the cover, and writes its number
-tile_server expire                   drops metatiles until no quota is exceeded, and writes how many
-tile_server job < JOB                runs a seed, a reseed or a truncation, and writes how many of its places are done
-tile_server usage                    writes what is kept, layer by layer, and how many truncations are in force
-tile_server serve --port PORT --connections COUNT
-                                     serves so many connections at that port over TCP on that cache, and keeps its quotas
-tile_server feed make                makes an empty list of the changes that were made on the cache
-tile_server feed < CHANGES           makes each numbered truncation once on the cache, and writes what became of each
-tile_server compose < LINES          lays tiles of several layers over each other on a cabinet in memory, and writes them
-tile_server twin make                makes an empty cache, its marks and an outbox, whatever stood in their files
-tile_server twin < EVENTS            runs a leader and a follower over a lossy link, event by event
-tile_server lead PORT                sends the outbox to one follower at that port of this machine, until all of it was seen
-tile_server follow PORT              makes the changes that a leader at that port of this machine sends, until it ends
-tile_server --help                   writes this text
-tile_server --version                writes the version
-
-It works with these files of the folder in which it is run:
-  catalogue.json     layers, grids, styles, limits; where it is absent, the built-in catalogue of one layer, demo
-  capabilities.xml   the capabilities document that GetCapabilities answers; where it is absent, one of no bytes
-  source.grid        the cells of which pictures are made; where it is absent, the pictures of a formula
-  source.http        the renderer over HTTP that makes the pictures, in place of source.grid
-  cache.disk         the cache; `make` makes it, and one program at a time may work on it
-  cache.sums         sums of its tiles, by which one that was changed is noticed; where it is absent, none is looked for
-  cache.marks        which change of the feed was made last; `feed make` and `twin make` make it
-  cache.outbox       the truncations that a leader has for its follower; `twin make` makes it
-
-It ends with a code, and all but the first are told by a line on standard error:
-   0  done                                    8  not a cache, catalogue differs KEPT ASKED,
-   2  usage: the words are no command            bad record SLOT, openings spent
-   3  catalogue KIND FIELD INDEX: its fault,  9  cuts full: the truncation was not made
-      renderer KIND FIELD INDEX: that of
-      source.http; two sources: it stands
-      beside source.grid
-   4  read fault                             10  out of memory
-   5  write fault                            11  stream ..: the connection's bytes broke off
-   6  disk fault                             12  too long: a file or the input is above its limit
-   7  line N: this line was refused          13  form KIND FIELD: the fault of the cover or
-                                                 the job
-                                             14  listen fault: the port isn't had, or gives no more
-                                             15  recipe KIND FIELD PART: the fault of the recipe
-                                             16  link ..: it broke off, or a change was not made
-                                             18  thread fault: the server's threads can't be made
-
-docs/OPERATING.md of its repository has the files, the lines and what to do at each fault; docs/PROMISES.md what is proved.
-";
 
 const VERSION: &str = "tile_server 0.1.0\n";
 
@@ -173,10 +127,11 @@ fn main(rt: HostRuntime) -> ExitCode {
         Err(error) if error.kind() == io::ErrorKind::OutOfMemory => {
             return exit_code(&rt, Status::OutOfMemory);
         }
-        Err(_) => return exit_code(&rt, Status::Usage),
+        Err(_) => return end_with(&rt, Status::Usage, &[]),
     };
     match top_call(words.as_slice()) {
         TopCall::Help => print_text(&rt, HELP),
+        TopCall::WordHelp => print_help_of(&rt, words.as_slice()),
         TopCall::Version => print_text(&rt, VERSION),
         TopCall::Command => command::command(rt, rt, words.as_slice()),
         TopCall::Serve => serve::serve(&rt, words.as_slice(), Clock::system(rt)),
@@ -184,6 +139,9 @@ fn main(rt: HostRuntime) -> ExitCode {
         TopCall::Compose => compose::compose(rt, rt, words.as_slice()),
         TopCall::Twin => twin::twin(rt, rt, words.as_slice()),
         TopCall::Link => link::link(rt, words.as_slice()),
+        TopCall::Look => look::look(rt, words.as_slice()),
+        TopCall::Carry => carry::carry(&rt, words.as_slice()),
+        TopCall::Seal => end_with(&rt, Status::Usage, &[]),
     }
 }
 
@@ -207,9 +165,12 @@ fn code_of(fault: SourceFault) -> u8 {
 }
 
 /// Tells why there is no source, and gives the code: where another file of the program may fail so, that of such a fault.
-fn without_source(rt: &impl Eprint, fault: SourceFault) -> ExitCode {
+fn without_source(
+    rt: &(impl Files<File = File> + Eprint + AllocGlobal),
+    fault: SourceFault,
+) -> ExitCode {
     match fault {
-        SourceFault::ReadFault => exit_code(rt, Status::ReadFault),
+        SourceFault::ReadFault => end_with(rt, Status::ReadFault, &[]),
         SourceFault::TooLong => exit_code(rt, Status::TooLong),
         SourceFault::OutOfMemory => exit_code(rt, Status::OutOfMemory),
         refused => {
@@ -225,6 +186,21 @@ fn exit_code(rt: &impl Eprint, status: Status) -> ExitCode {
         let _ = eprintln!(rt; "{status}");
     }
     ExitCode::from(status.code())
+}
+
+/// Prints the help of the first word on standard output.
+fn print_help_of(
+    rt: &(impl Files<File = File> + Print + Eprint + AllocGlobal),
+    words: &[Words],
+) -> ExitCode {
+    let text = match words {
+        [word, ..] => help_of(word.bytes()),
+        [] => None,
+    };
+    match text {
+        Some(text) => print_text(rt, text),
+        None => end_with(rt, Status::Usage, &[]),
+    }
 }
 
 /// Prints a text on standard output.

@@ -2,15 +2,17 @@
 ghost use Rattle.std.specs.Prelude.{IfOk, length, ◌≡◌, ◌≤◌};
 
 use crate::cache::{open_cache, tell_unfit};
+use crate::endings::{WorkedFile, end_with};
 use crate::{
-    CAPABILITIES, CELLS, CatalogueInput, catalogue_of, exit_code, status_of_error, without_source,
+    CACHE, CAPABILITIES, CELLS, CatalogueInput, catalogue_of, exit_code, status_of_error,
+    without_source,
 };
 use base::Clock;
 use command_status::Status;
 use command_words::{ServeFault, ServeWords, serve_words};
 use exact_ratio::Words;
 use http_wire::FileSource;
-use program_files::{Input, ProgramSource, SourceChoice};
+use program_files::{Input, ProgramSource, SourceChoice, Watch};
 use server_command::run_server;
 use server_workers::SOURCES;
 use std::alloc::AllocError;
@@ -72,11 +74,22 @@ where
         return exit_code(rt, Status::OutOfMemory);
     };
     let mut capabilities = Input::File(FileSource::open(rt, CAPABILITIES));
+    let watch = Watch {
+        faults: true,
+        opening: false,
+    };
+    let mut cache = open_cache(*rt, false, grain, watch);
+    if cache.files.disk.is_in_use() {
+        return end_with(
+            rt,
+            Status::DiskFault,
+            &[WorkedFile::of(CACHE, &cache.files.disk)],
+        );
+    }
     let mut listener = match TcpAccept::bind(*rt, rt.alloc(), words.port) {
         Ok(listener) => listener,
         Err(error) => return exit_code(rt, status_of_error(&error)),
     };
-    let mut cache = open_cache(rt, false, grain);
     let status = run_server(
         rt,
         rt.alloc(),
@@ -89,8 +102,8 @@ where
         clock,
         Snapshot::of(&false),
     );
-    tell_unfit(rt, &cache);
-    exit_code(rt, status)
+    tell_unfit(rt, &cache.files);
+    end_with(rt, status, &[WorkedFile::of(CACHE, &cache.files.disk)])
 }
 
 /// Does what the words of a server say: `serve`, and those after it.
@@ -115,7 +128,7 @@ where
     };
     match serve_words(rt.alloc(), after) {
         Ok(words) => serve_links(rt, words, clock),
-        Err(ServeFault::Usage) => exit_code(rt, Status::Usage),
+        Err(ServeFault::Usage) => end_with(rt, Status::Usage, &[]),
         Err(ServeFault::OutOfMemory) => exit_code(rt, Status::OutOfMemory),
     }
 }

@@ -1,13 +1,14 @@
 //! The words of a twin: a leader and a follower over a link that loses, repeats and reorders what goes over it, event by event.
 ghost use Rattle.std.specs.Prelude.{◌<◌};
 
-use crate::cache::{Cache, open_cache, tell_unfit, without_sums};
-use crate::{CELLS, CatalogueInput, MARKS, OUTBOX, catalogue_of, exit_code, without_source};
+use crate::cache::{open_files, tell_unfit, without_sums};
+use crate::endings::{WorkedFile, end_with};
+use crate::{CACHE, CELLS, CatalogueInput, MARKS, OUTBOX, catalogue_of, exit_code, without_source};
 use base::Clock;
 use command_status::Status;
 use exact_ratio::Words;
 use http_wire::{StdinSource, StdoutSink};
-use program_files::{CacheDisk, Input};
+use program_files::{CacheDisk, CacheFiles, Input};
 use std::fs::File;
 use std::io::Eprint;
 use std::net::Net;
@@ -17,7 +18,7 @@ use std::sync::Wait;
 use twin_words::{TwinWord, run_twin, twin_word};
 
 /// A file of a twin, opened for the words that work on it, and made by the one that makes it.
-fn file_for(rt: &impl Files<File = File>, words: &[Words], path: &str, grain: u32) -> Cache
+fn file_for(rt: &impl Files<File = File>, words: &[Words], path: &str, grain: u32) -> CacheFiles
     requires { 8 < grain }
 {
     let file = match twin_word(words) {
@@ -28,11 +29,11 @@ fn file_for(rt: &impl Files<File = File>, words: &[Words], path: &str, grain: u3
 }
 
 /// The cache, opened for the words that work on it, and made by the one that makes it.
-fn cache_for(rt: &(impl Files<File = File> + Eprint), words: &[Words], grain: u32) -> Cache
+fn cache_for(rt: &(impl Files<File = File> + Eprint), words: &[Words], grain: u32) -> CacheFiles
     requires { 8 < grain }
 {
     match twin_word(words) {
-        Some(word) => open_cache(rt, word == TwinWord::Make, grain),
+        Some(word) => open_files(rt, word == TwinWord::Make, grain),
         None => without_sums(CacheDisk::Absent(0), grain),
     }
 }
@@ -72,5 +73,10 @@ where
         &mut outbox,
     );
     tell_unfit(&rt, &disk);
-    exit_code(&rt, status)
+    let files = [
+        WorkedFile::of(CACHE, &disk.disk),
+        WorkedFile::of(MARKS, &marks.disk),
+        WorkedFile::of(OUTBOX, &outbox.disk),
+    ];
+    end_with(&rt, status, &files)
 }

@@ -189,8 +189,13 @@ pub fn status_by(
         TopCall::Compose => composed(alloc, words, streams, output, source, clock),
         TopCall::Twin => twinned(alloc, words, streams, output, source, disks, clock),
         TopCall::Link => linked(alloc, words, streams, output, disks, clock),
-        TopCall::Command | TopCall::Serve | TopCall::Help | TopCall::Version => {
-            commanded(alloc, words, streams, output, source, disks, clock)
-        }
+        TopCall::Command
+        | TopCall::Serve
+        | TopCall::Help
+        | TopCall::WordHelp
+        | TopCall::Version
+        | TopCall::Carry
+        | TopCall::Look
+        | TopCall::Seal => { commanded(alloc, words, streams, output, source, disks, clock) }
     }
 }
