@@ -23,15 +23,15 @@ use Rattle.cabinet.proofs.Once.{AreOnce, but_none, one_kept}
 
 -- WITHIN THE BLOBS' BYTES
 
-sum_inserted : (p : extent.Part.Part) (xs : List extent.Part.Part) → sum_by (λ q. q.length) (inserted p xs) ≡ p.length + sum_by (λ q. q.length) xs
+sum_inserted : (p : extent.Extent.Extent) (xs : List extent.Extent.Extent) → sum_by (λ q. q.length) (inserted p xs) ≡ p.length + sum_by (λ q. q.length) xs
 sum_inserted p [] = sum_by-cons (λ q. q.length) p []
 sum_inserted p (x ∷ xs) = chosen (nat_lt p.place x.place) (sum_inserted p xs)
   where
     chosen : (v : Bool) → sum_by (λ q. q.length) (inserted p xs) ≡ p.length + sum_by (λ q. q.length) xs → sum_by (λ q. q.length) (cond v (p ∷ x ∷ xs) (x ∷ inserted p xs)) ≡ p.length + sum_by (λ q. q.length) (x ∷ xs)
     chosen true e = sum_by-cons (λ q. q.length) p (x ∷ xs)
     chosen false e =
-        let a = sum_by-cons (λ (q : extent.Part.Part). q.length) x (inserted p xs) in
-        let b = sum_by-cons (λ (q : extent.Part.Part). q.length) x xs in
+        let a = sum_by-cons (λ (q : extent.Extent.Extent). q.length) x (inserted p xs) in
+        let b = sum_by-cons (λ (q : extent.Extent.Extent). q.length) x xs in
         omega (arith, a, b, e)
 
 sum_regions : (kept : List Kept) → sum_by (λ q. q.length) (regions kept) ≡ used_all (map part_of kept)
@@ -41,10 +41,10 @@ sum_regions (t ∷ ts) =
     let b = sum_by-cons (λ (p : Part). p.length) (part_of t) (map part_of ts) in
     omega (arith, a, b, sum_regions ts)
 
-sum_between : (low : ℕ) (xs : List extent.Part.Part) (high : ℕ) → LieInOrder low xs high → low + sum_by (λ q. q.length) xs ≤ high
+sum_between : (low : ℕ) (xs : List extent.Extent.Extent) (high : ℕ) → LieInOrder low xs high → low + sum_by (λ q. q.length) xs ≤ high
 sum_between low [] high o = omega (arith, o)
 sum_between low (x ∷ xs) high o =
-    let a = sum_by-cons (λ (q : extent.Part.Part). q.length) x xs in
+    let a = sum_by-cons (λ (q : extent.Extent.Extent). q.length) x xs in
     let b = sum_between (end_of x) xs high o.2 in
     omega (arith, a, b, o.0)
 

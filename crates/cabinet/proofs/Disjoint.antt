@@ -5,7 +5,7 @@ use Rattle.std.specs.List.{AllByRecursion}
 use Rattle.std.proofs.lemmas.Bool.Decides.{nat_tests}
 use Rattle.catalog.specs.declared.catalogue.Catalogue.{Catalogue}
 use Rattle.catalog.specs.Valid.{IsValid}
-use Rattle.extent_map.specs.declared.part.Part.{Part}
+use Rattle.extent_map.specs.declared.part.Extent.{Extent}
 use Rattle.extent_map.specs.Parts.{end_of, AreApart, LieInOrder, inserted}
 use Rattle.extent_map.specs.Spaces.{IsFree}
 use Rattle.metatile_locks.proofs.Lists.{all_filter, all_weaker}
@@ -66,7 +66,7 @@ fewer bytes p ts h = record {
 
 -- IN ORDER OF PLACE
 
-in_inserted : (P : Part → Type 0) (p : Part) (xs : List Part) → P p → AllByRecursion P xs → AllByRecursion P (inserted p xs)
+in_inserted : (P : Extent → Type 0) (p : Extent) (xs : List Extent) → P p → AllByRecursion P xs → AllByRecursion P (inserted p xs)
 in_inserted P p [] h a = (h, tt)
 in_inserted P p (x ∷ xs) h a = chosen (nat_lt p.place x.place) (in_inserted P p xs h a.1)
   where
@@ -74,16 +74,16 @@ in_inserted P p (x ∷ xs) h a = chosen (nat_lt p.place x.place) (in_inserted P 
     chosen true rest = (h, (a.0, a.1))
     chosen false rest = (a.0, rest)
 
-pub of_regions : (P : Part → Type 0) (ts : List Kept) → AllByRecursion (λ t. P (region t)) ts → AllByRecursion P (regions ts)
+pub of_regions : (P : Extent → Type 0) (ts : List Kept) → AllByRecursion (λ t. P (region t)) ts → AllByRecursion P (regions ts)
 of_regions P [] a = tt
 of_regions P (t ∷ ts) a = in_inserted P (region t) (regions ts) a.0 (of_regions P ts a.1)
 
-pub other_side : (p q : Part) → AreApart p q → AreApart q p
+pub other_side : (p q : Extent) → AreApart p q → AreApart q p
 other_side p q (inl a) = inr a
 other_side p q (inr b) = inl b
 
 -- a free part goes in between those in order
-pub inserted_order : (low : ℕ) (p : Part) (xs : List Part) (high : ℕ) → LieInOrder low xs high → low ≤ p.place → 1 ≤ p.length → IsFree xs high p → LieInOrder low (inserted p xs) high
+pub inserted_order : (low : ℕ) (p : Extent) (xs : List Extent) (high : ℕ) → LieInOrder low xs high → low ≤ p.place → 1 ≤ p.length → IsFree xs high p → LieInOrder low (inserted p xs) high
 inserted_order low p [] high o l some free = (l, some, free.0)
 inserted_order low p (x ∷ xs) high o l some free = chosen (nat_lt p.place x.place) refl (λ over. inserted_order (end_of x) p xs high o.2 over some (free.0, free.1.1))
   where

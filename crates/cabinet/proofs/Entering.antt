@@ -103,7 +103,7 @@ can_enter c kept i t s can e r =
 
 module _ (c : Catalogue) (blobs : List KeptBlob) (space : Space) (ledger : Accounts) (counts : Counts) (n : IsShelved c blobs space ledger counts) (t : Kept) (can : CanEnter c blobs t) where
   free_there : IsFree space.parts space.size (region t)
-  free_there = subst (λ (ps : List extent.Part.Part). IsFree ps space.size (region t)) (sym n.parts) (subst (λ (size : ℕ). IsFree (regions (listed blobs)) size (region t)) (sym n.size) can.free)
+  free_there = subst (λ (ps : List extent.Extent.Extent). IsFree ps space.size (region t)) (sym n.parts) (subst (λ (size : ℕ). IsFree (regions (listed blobs)) size (region t)) (sym n.size) can.free)
 
   module _ (v : Bool) (claimed : Space) (free : IsTrue v ↔ IsFree space.parts space.size (region t)) (taken : IsTrue v → IsTaken space (region t) claimed) (sound : IsSound claimed) where
     claimed_there : IsTaken space (region t) claimed

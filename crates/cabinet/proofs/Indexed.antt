@@ -4,7 +4,7 @@ use Rattle.std.specs.Prelude.{IsSome, is_some}
 use Rattle.std.specs.List.{AllByRecursion}
 use Rattle.std.specs.Option.{option_map}
 use Rattle.std.proofs.lemmas.List.Sorted.{IsPermutation-map}
-use Rattle.kept_areas.specs.declared.spot.Spot.{Spot}
+use Rattle.kept_areas.specs.declared.spot.KeptSpot.{KeptSpot}
 use Rattle.kept_areas.specs.Areas.{AreOnce, Areas, is_spot_of, least_in, number_at, number_in}
 use Rattle.kept_areas.specs.Areas as areas
 use Rattle.metatile_locks.proofs.Lists.{all_map, fewer, found}
@@ -29,13 +29,13 @@ number_of b = b.kept.number
 abbrev bare : MetaKey → ℕ → KeptBlob
 bare m n = record { kept = record { number = n; meta = m; place = 0; length = 0; moment = 0; uses = 0 }; text = [] }
 
-abbrev of_spot : Spot → KeptBlob
+abbrev of_spot : KeptSpot → KeptBlob
 of_spot s = bare s.meta s.number
 
 abbrev of_blob : KeptBlob → KeptBlob
 of_blob b = bare b.kept.meta b.kept.number
 
-spot_at : (m : MetaKey) (ss : List Spot) → held_at (map of_spot ss) m ≡ option_map (bare m) (number_in ss m)
+spot_at : (m : MetaKey) (ss : List KeptSpot) → held_at (map of_spot ss) m ≡ option_map (bare m) (number_in ss m)
 spot_at m [] = refl
 spot_at m (s ∷ ss) = chosen (same_meta s.meta m) refl (spot_at m ss)
   where
@@ -53,7 +53,7 @@ blob_at m (b ∷ bs) = chosen (same_meta b.kept.meta m) refl (blob_at m bs)
     chosen true is ih = λ i. Some (bare (same_meta_is b.kept.meta m is i) b.kept.number)
     chosen false is ih = ih
 
-spots_apart : (ss : List Spot) → AreOnce ss → ApartBy (λ b. b.kept.meta) (map of_spot ss)
+spots_apart : (ss : List KeptSpot) → AreOnce ss → ApartBy (λ b. b.kept.meta) (map of_spot ss)
 spots_apart [] a = tt
 spots_apart (s ∷ ss) a = (all_map of_spot (λ (b : KeptBlob). s.meta ≢ b.kept.meta) ss a.0, spots_apart ss a.1)
 
@@ -61,7 +61,7 @@ blobs_apart : (bs : List KeptBlob) → ApartBy (λ b. b.kept.meta) bs → ApartB
 blobs_apart [] a = tt
 blobs_apart (b ∷ bs) a = (all_map of_blob (λ (x : KeptBlob). b.kept.meta ≢ x.kept.meta) bs a.0, blobs_apart bs a.1)
 
-spot_numbers : (ss : List Spot) → map number_of (map of_spot ss) ≡ map (λ s. s.number) ss
+spot_numbers : (ss : List KeptSpot) → map number_of (map of_spot ss) ≡ map (λ s. s.number) ss
 spot_numbers [] = refl
 spot_numbers (s ∷ ss) = ap (λ ns. s.number ∷ ns) (spot_numbers ss)
 
@@ -77,7 +77,7 @@ least_is : (was : Option ℕ) (ns : List ℕ) → fold areas.lesser was ns ≡ f
 least_is was [] = refl
 least_is was (n ∷ ns) = least_is (areas.lesser was n) ns ∙ ap (λ (o : Option ℕ). fold lesser o ns) (lesser_is was n)
 
-pub numbers_same : (was : Option ℕ) (ss : List Spot) (bs : List KeptBlob) → AreOnce ss → ApartBy (λ b. b.kept.meta) bs → ((m : MetaKey) → number_in ss m ≡ option_map number_of (held_at bs m)) → least_in was ss ≡ fold lesser was (map number_of bs)
+pub numbers_same : (was : Option ℕ) (ss : List KeptSpot) (bs : List KeptBlob) → AreOnce ss → ApartBy (λ b. b.kept.meta) bs → ((m : MetaKey) → number_in ss m ≡ option_map number_of (held_at bs m)) → least_in was ss ≡ fold lesser was (map number_of bs)
 numbers_same was ss bs a b same =
     let order = reordered (map of_spot ss) (map of_blob bs) (spots_apart ss a) (blobs_apart bs b) (λ m. spot_at m ss ∙ ap (option_map (bare m)) (same m) ∙ sym (blob_at m bs)) in
     least_is was (map (λ s. s.number) ss)

@@ -138,16 +138,16 @@ module _ (c : Catalogue) (blobs : List KeptBlob) (space : Space) (ledger : Accou
   its_region m t e =
       let one = one_kept m t (listed blobs) n.once e in
       let parts = n.parts ∙ ap regions one.there in
-      parts ∙ one_of 0 one.before t one.behind space.size (subst (λ (ps : List extent.Part.Part). LieInOrder 0 ps space.size) parts n.order) ∙ ap (λ (ts : List Kept). inserted (region t) (regions ts)) (sym one.others)
+      parts ∙ one_of 0 one.before t one.behind space.size (subst (λ (ps : List extent.Extent.Extent). LieInOrder 0 ps space.size) parts n.order) ∙ ap (λ (ts : List Kept). inserted (region t) (regions ts)) (sym one.others)
 
   -- is taken
   pub region_taken : (m : MetaKey) (t : Kept) → find (is_of m) (listed blobs) ≡ Some t → Contains space.parts (region t)
-  region_taken m t e = subst (λ (ps : List extent.Part.Part). Contains ps (region t)) (sym (its_region m t e)) (has_inserted (region t) (regions (but m (listed blobs))))
+  region_taken m t e = subst (λ (ps : List extent.Extent.Extent). Contains ps (region t)) (sym (its_region m t e)) (has_inserted (region t) (regions (but m (listed blobs))))
 
   -- and is given back
   region_given : (m : MetaKey) (t : Kept) (given : Space) → find (is_of m) (listed blobs) ≡ Some t → IsTaken given (region t) space → given.parts ≡ regions (but m (listed blobs))
   region_given m t given e taken =
-      taken_out 0 (region t) given.parts (regions (but m (listed blobs))) space.size (subst (λ (ps : List extent.Part.Part). LieInOrder 0 ps space.size) taken.entered n.order) (sym taken.entered ∙ its_region m t e)
+      taken_out 0 (region t) given.parts (regions (but m (listed blobs))) space.size (subst (λ (ps : List extent.Extent.Extent). LieInOrder 0 ps space.size) taken.entered n.order) (sym taken.entered ∙ its_region m t e)
 
   -- ONE IS USED
 
@@ -268,7 +268,7 @@ module _ (c : Catalogue) (blobs : List KeptBlob) (space : Space) (ledger : Accou
         let one = one_kept t.meta o (listed blobs) n.once e in
         let parts = beside ∙ ap (λ (ts : List Kept). regions (t ∷ ts)) one.there in
         parts
-        ∙ one_of 0 (t ∷ one.before) o one.behind taken.size (subst (λ (ps : List extent.Part.Part). LieInOrder 0 ps taken.size) parts order)
+        ∙ one_of 0 (t ∷ one.before) o one.behind taken.size (subst (λ (ps : List extent.Extent.Extent). LieInOrder 0 ps taken.size) parts order)
         ∙ ap (λ (ts : List Kept). inserted (region o) (regions (t ∷ ts))) (sym one.others)
 
     -- the older region is taken too
@@ -277,7 +277,7 @@ module _ (c : Catalogue) (blobs : List KeptBlob) (space : Space) (ledger : Accou
       where
         taken_at : (o : Option Kept) → o ≡ find (is_of t.meta) (listed blobs) → IfSome o (λ o. Contains taken.parts (region o))
         taken_at None e = tt
-        taken_at (Some o) e = subst (λ (ps : List extent.Part.Part). Contains ps (region o)) (sym (older_region o (sym e))) (has_inserted (region o) (regions (t ∷ but t.meta (listed blobs))))
+        taken_at (Some o) e = subst (λ (ps : List extent.Extent.Extent). Contains ps (region o)) (sym (older_region o (sym e))) (has_inserted (region o) (regions (t ∷ but t.meta (listed blobs))))
 
     module _ (given : Space) (gave : IfSome older (λ o. IsTaken given (region o) taken)) (left : IfNone older (given ≡ taken)) (sound : LieInOrder 0 given.parts given.size) where
       -- what is left of the regions
@@ -287,7 +287,7 @@ module _ (c : Catalogue) (blobs : List KeptBlob) (space : Space) (ledger : Accou
           given_at : (o : Option Kept) → o ≡ find (is_of t.meta) (listed blobs) → IfSome o (λ o. IsTaken given (region o) taken) → IfNone o (given ≡ taken) → given.parts ≡ regions (t ∷ but t.meta (listed blobs))
           given_at None e gave left = ap (λ (x : Space). x.parts) left ∙ beside ∙ ap (λ (ts : List Kept). regions (t ∷ ts)) (sym (but_none t.meta (listed blobs) (none_passes (is_of t.meta) (listed blobs) (sym e))))
           given_at (Some o) e gave left =
-              taken_out 0 (region o) given.parts (regions (t ∷ but t.meta (listed blobs))) taken.size (subst (λ (ps : List extent.Part.Part). LieInOrder 0 ps taken.size) gave.entered order) (sym gave.entered ∙ older_region o (sym e))
+              taken_out 0 (region o) given.parts (regions (t ∷ but t.meta (listed blobs))) taken.size (subst (λ (ps : List extent.Extent.Extent). LieInOrder 0 ps taken.size) gave.entered order) (sym gave.entered ∙ older_region o (sym e))
 
       given_size : given.size ≡ space.size
       given_size = size_at older gave left ∙ took.same_size
@@ -309,7 +309,7 @@ module _ (c : Catalogue) (blobs : List KeptBlob) (space : Space) (ledger : Accou
       kept_shelved text u ledger' counts' long_text long_blob layer others bytes uses =
           let list = listed_put t text blobs in
           let rest = but t.meta (listed blobs) in
-          let ordered : LieInOrder 0 (regions (t ∷ but t.meta (listed blobs))) given.size = subst (λ (ps : List extent.Part.Part). LieInOrder 0 ps given.size) given_parts sound in
+          let ordered : LieInOrder 0 (regions (t ∷ but t.meta (listed blobs))) given.size = subst (λ (ps : List extent.Extent.Extent). LieInOrder 0 ps given.size) given_parts sound in
           let pushed = last_of t (but t.meta (listed blobs)) (alone 0 (region t) (regions (but t.meta (listed blobs))) given.size ordered).places in
           let long = length-append (filter (λ b. not (is_of t.meta b.kept)) blobs) (record { kept = t; text = text } ∷ []) in
           record {
@@ -337,7 +337,7 @@ module _ (c : Catalogue) (blobs : List KeptBlob) (space : Space) (ledger : Accou
     pub fits_beside : (without older ledger).whole.used + t.length < 2 ^ 64
     fits_beside =
         let whole = ap (λ (a : Accounts). a.whole.used) (older_gone t.meta older is) in
-        let all = bytes_within (t ∷ listed blobs) taken.size (subst (λ (ps : List extent.Part.Part). LieInOrder 0 ps taken.size) beside order) in
+        let all = bytes_within (t ∷ listed blobs) taken.size (subst (λ (ps : List extent.Extent.Extent). LieInOrder 0 ps taken.size) beside order) in
         let sum = sum_by-cons (λ (p : Part). p.length) (part_of t) (map part_of (listed blobs)) in
         let less = fewer_bytes in
         omega (arith, whole, sum, less, all, took.same_size, n.size, n.valid.blob_bytes_most)

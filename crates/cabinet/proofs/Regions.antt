@@ -4,7 +4,7 @@ use Rattle.std.specs.Prelude.{nat_lt, nat_le}
 use Rattle.std.specs.List.{AllByRecursion, Contains}
 use Rattle.std.proofs.lemmas.Bool.{cases_lt}
 use Rattle.std.proofs.lemmas.Bool.Decides.{nat_tests}
-use Rattle.extent_map.specs.declared.part.Part.{Part}
+use Rattle.extent_map.specs.declared.part.Extent.{Extent}
 use Rattle.extent_map.specs.Parts.{part_at, end_of, AreApart, LieInOrder, inserted}
 use Rattle.extent_map.specs.Spaces.{IsFree, NoneFree, NoneFreeBelow}
 use Rattle.extent_map.proofs.Order.{low_high, earlier}
@@ -28,7 +28,7 @@ is_not_below x y l = grind (arith, nat_tests)
 -- PARTS OF DIFFERENT PLACES
 
 -- all that is inserted into or stands
-all_inserted : (P : Part → Type 0) (p : Part) (xs : List Part) → AllByRecursion P (inserted p xs) → P p × AllByRecursion P xs
+all_inserted : (P : Extent → Type 0) (p : Extent) (xs : List Extent) → AllByRecursion P (inserted p xs) → P p × AllByRecursion P xs
 all_inserted P p [] a = (a.0, tt)
 all_inserted P p (x ∷ xs) a = chosen (nat_lt p.place x.place) a (all_inserted P p xs)
   where
@@ -36,38 +36,38 @@ all_inserted P p (x ∷ xs) a = chosen (nat_lt p.place x.place) a (all_inserted 
     chosen true a ih = (a.0, a.1)
     chosen false a ih = let r = ih a.1 in (r.0, (a.0, r.1))
 
-all_behind : (low : ℕ) (xs : List Part) (high : ℕ) → LieInOrder low xs high → AllByRecursion (λ x. low ≤ x.place) xs
+all_behind : (low : ℕ) (xs : List Extent) (high : ℕ) → LieInOrder low xs high → AllByRecursion (λ x. low ≤ x.place) xs
 all_behind low [] high o = tt
-all_behind low (x ∷ xs) high o = (o.0, all_weaker (λ (y : Part). end_of x ≤ y.place) (λ y. low ≤ y.place) (λ y l. let a = o.0 in omega arith) xs (all_behind (end_of x) xs high o.2))
+all_behind low (x ∷ xs) high o = (o.0, all_weaker (λ (y : Extent). end_of x ≤ y.place) (λ y. low ≤ y.place) (λ y l. let a = o.0 in omega arith) xs (all_behind (end_of x) xs high o.2))
 
 -- in a list in order no other part is at the place of one that was inserted, and what is left without it is in order
-pub record Alone (low : ℕ) (p : Part) (xs : List Part) (high : ℕ) : Type 0 where
+pub record Alone (low : ℕ) (p : Extent) (xs : List Extent) (high : ℕ) : Type 0 where
   pub places : AllByRecursion (λ x. x.place ≢ p.place) xs
   pub order : LieInOrder low xs high
 
-pub alone : (low : ℕ) (p : Part) (xs : List Part) (high : ℕ) → LieInOrder low (inserted p xs) high → Alone low p xs high
+pub alone : (low : ℕ) (p : Extent) (xs : List Extent) (high : ℕ) → LieInOrder low (inserted p xs) high → Alone low p xs high
 alone low p [] high o = record { places = tt; order = let a = o.0 in let b = o.2 in omega arith }
 alone low p (x ∷ xs) high o = chosen (nat_lt p.place x.place) refl o (alone (end_of x) p xs high)
   where
     chosen : (v : Bool) → nat_lt p.place x.place ≡ v → LieInOrder low (cond v (p ∷ x ∷ xs) (x ∷ inserted p xs)) high → (LieInOrder (end_of x) (inserted p xs) high → Alone (end_of x) p xs high) → Alone low p (x ∷ xs) high
     chosen true is o ih = record {
-      places = all_weaker (λ (y : Part). end_of p ≤ y.place) (λ y. y.place ≢ p.place) (λ y l e. let some = o.1 in omega arith) (x ∷ xs) (all_behind (end_of p) (x ∷ xs) high o.2);
+      places = all_weaker (λ (y : Extent). end_of p ≤ y.place) (λ y. y.place ≢ p.place) (λ y l e. let some = o.1 in omega arith) (x ∷ xs) (all_behind (end_of p) (x ∷ xs) high o.2);
       order = earlier low (end_of p) (x ∷ xs) high (let a = o.0 in omega arith) o.2;
     }
     chosen false is o ih =
         let r = ih o.2 in
-        let behind = (all_inserted (λ (y : Part). end_of x ≤ y.place) p xs (all_behind (end_of x) (inserted p xs) high o.2)).0 in
+        let behind = (all_inserted (λ (y : Extent). end_of x ≤ y.place) p xs (all_behind (end_of x) (inserted p xs) high o.2)).0 in
         record { places = ((λ e. let some = o.1 in omega arith), r.places); order = (o.0, o.1, r.order) }
 
 -- INSERTED IN EITHER ORDER
 
-front_of : (p q : Part) (xs : List Part) → p.place < q.place → inserted p (q ∷ xs) ≡ p ∷ q ∷ xs
+front_of : (p q : Extent) (xs : List Extent) → p.place < q.place → inserted p (q ∷ xs) ≡ p ∷ q ∷ xs
 front_of p q xs l = rw (is_below p.place q.place l) refl
 
-behind_of : (p q : Part) (xs : List Part) → q.place ≤ p.place → inserted p (q ∷ xs) ≡ q ∷ inserted p xs
+behind_of : (p q : Extent) (xs : List Extent) → q.place ≤ p.place → inserted p (q ∷ xs) ≡ q ∷ inserted p xs
 behind_of p q xs l = rw (is_not_below p.place q.place l) refl
 
-either_order : (p q : Part) (xs : List Part) → p.place < q.place → inserted p (inserted q xs) ≡ inserted q (inserted p xs)
+either_order : (p q : Extent) (xs : List Extent) → p.place < q.place → inserted p (inserted q xs) ≡ inserted q (inserted p xs)
 either_order p q [] l = front_of p q [] l ∙ sym (behind_of q p [] (omega arith))
 either_order p q (x ∷ xs) l = chosen (nat_lt q.place x.place) (nat_lt p.place x.place) refl refl (either_order p q xs l)
   where
@@ -77,7 +77,7 @@ either_order p q (x ∷ xs) l = chosen (nat_lt q.place x.place) (nat_lt p.place 
     chosen false true a b ih = front_of p x (inserted q xs) (below_is p.place x.place b) ∙ sym (behind_of q p (x ∷ xs) (omega arith) ∙ ap (λ ys. p ∷ ys) (behind_of q x xs (not_below_is q.place x.place a)))
     chosen false false a b ih = behind_of p x (inserted q xs) (not_below_is p.place x.place b) ∙ ap (λ ys. x ∷ ys) ih ∙ sym (behind_of q x (inserted p xs) (not_below_is q.place x.place a))
 
-pub any_order : (p q : Part) (xs : List Part) → p.place ≢ q.place → inserted p (inserted q xs) ≡ inserted q (inserted p xs)
+pub any_order : (p q : Extent) (xs : List Extent) → p.place ≢ q.place → inserted p (inserted q xs) ≡ inserted q (inserted p xs)
 any_order p q xs apart = elim (cases_lt p.place q.place) [
   | inl under ↦ either_order p q xs under
   | inr over ↦ elim (cases_lt q.place p.place) [
@@ -88,7 +88,7 @@ any_order p q xs apart = elim (cases_lt p.place q.place) [
 
 -- A REGION OF MANY
 
-pub all_regions : (P : Part → Type 0) (ts : List Kept) → AllByRecursion P (regions ts) → AllByRecursion (λ t. P (region t)) ts
+pub all_regions : (P : Extent → Type 0) (ts : List Kept) → AllByRecursion P (regions ts) → AllByRecursion (λ t. P (region t)) ts
 all_regions P [] a = tt
 all_regions P (t ∷ ts) a = let r = all_inserted P (region t) (regions ts) a in (r.0, all_regions P ts r.1)
 
@@ -110,14 +110,14 @@ last_of t ts a = pushed ts (all_regions (λ x. x.place ≢ t.place) ts a)
 
 -- TAKEN OUT
 
-abbrev without_place : ℕ → List Part → List Part
+abbrev without_place : ℕ → List Extent → List Extent
 without_place n [] = []
 without_place n (x ∷ xs) = cond (nat_lt x.place n) (x ∷ without_place n xs) (cond (nat_lt n x.place) (x ∷ xs) xs)
 
 itself_not : (n : ℕ) → nat_lt n n ≡ false
 itself_not n = grind (arith, nat_tests)
 
-without_inserted : (p : Part) (xs : List Part) → AllByRecursion (λ x. x.place ≢ p.place) xs → without_place p.place (inserted p xs) ≡ xs
+without_inserted : (p : Extent) (xs : List Extent) → AllByRecursion (λ x. x.place ≢ p.place) xs → without_place p.place (inserted p xs) ≡ xs
 without_inserted p [] a = rw (itself_not p.place) refl
 without_inserted p (x ∷ xs) a = chosen (nat_lt p.place x.place) refl (without_inserted p xs a.1)
   where
@@ -128,13 +128,13 @@ without_inserted p (x ∷ xs) a = chosen (nat_lt p.place x.place) refl (without_
         rw (is_below x.place p.place (omega arith)) (ap (λ ys. x ∷ ys) ih)
 
 -- what is left when a part is taken out is one list
-pub taken_out : (low : ℕ) (p : Part) (xs ys : List Part) (high : ℕ) → LieInOrder low (inserted p xs) high → inserted p xs ≡ inserted p ys → xs ≡ ys
+pub taken_out : (low : ℕ) (p : Extent) (xs ys : List Extent) (high : ℕ) → LieInOrder low (inserted p xs) high → inserted p xs ≡ inserted p ys → xs ≡ ys
 taken_out low p xs ys high o e =
     sym (without_inserted p xs (alone low p xs high o).places)
     ∙ ap (without_place p.place) e
-    ∙ without_inserted p ys (alone low p ys high (subst (λ (zs : List Part). LieInOrder low zs high) e o)).places
+    ∙ without_inserted p ys (alone low p ys high (subst (λ (zs : List Extent). LieInOrder low zs high) e o)).places
 
-pub has_inserted : (p : Part) (xs : List Part) → Contains (inserted p xs) p
+pub has_inserted : (p : Extent) (xs : List Extent) → Contains (inserted p xs) p
 has_inserted p [] = (0, omega arith, refl)
 has_inserted p (x ∷ xs) = chosen (nat_lt p.place x.place) (has_inserted p xs)
   where
@@ -145,12 +145,12 @@ has_inserted p (x ∷ xs) = chosen (nat_lt p.place x.place) (has_inserted p xs)
 -- THE LOWEST GAP
 
 -- what the search from a place on finds
-pub record IsGap (from : ℕ) (parts : List Part) (size bytes place : ℕ) : Type 0 where
+pub record IsGap (from : ℕ) (parts : List Extent) (size bytes place : ℕ) : Type 0 where
   pub behind : from ≤ place
   pub free : IsFree parts size (part_at place bytes)
   pub lowest : (lower : ℕ) → from ≤ lower → lower < place → IsFree parts size (part_at lower bytes) → ⊥
 
-ahead : (low : ℕ) (ps : List Part) (high : ℕ) (p : Part) → LieInOrder low ps high → end_of p ≤ low → AllByRecursion (λ q. AreApart q p) ps
+ahead : (low : ℕ) (ps : List Extent) (high : ℕ) (p : Extent) → LieInOrder low ps high → end_of p ≤ low → AllByRecursion (λ q. AreApart q p) ps
 ahead low [] high p h k = tt
 ahead low (y ∷ ps) high p h k = let m = h.0 in (inr (omega arith), ahead (end_of y) ps high p h.2 (omega arith))
 
@@ -161,13 +161,13 @@ not_le_is : (x y : ℕ) → nat_le x y ≡ false → x ≤ y → ⊥
 not_le_is x y e l = let f : nat_le x y ≡ true = grind (arith, nat_tests) in let g : true ≡ false = sym f ∙ e in cc
 
 -- a place before the end of the first part, and from its start's gap on, is not free
-not_before : (from : ℕ) (p : Part) (ps : List Part) (size bytes lower : ℕ) → (from + bytes ≤ p.place → ⊥) → from ≤ lower → lower < end_of p → IsFree (p ∷ ps) size (part_at lower bytes) → ⊥
+not_before : (from : ℕ) (p : Extent) (ps : List Extent) (size bytes lower : ℕ) → (from + bytes ≤ p.place → ⊥) → from ≤ lower → lower < end_of p → IsFree (p ∷ ps) size (part_at lower bytes) → ⊥
 not_before from p ps size bytes lower tight behind l free = elim free.1.0 [
   | inl a ↦ omega arith
   | inr b ↦ tight (omega arith)
 ]
 
-pub gap_some : (from : ℕ) (parts : List Part) (size bytes x : ℕ) → LieInOrder from parts size → lowest_gap from parts size bytes ≡ Some x → IsGap from parts size bytes x
+pub gap_some : (from : ℕ) (parts : List Extent) (size bytes x : ℕ) → LieInOrder from parts size → lowest_gap from parts size bytes ≡ Some x → IsGap from parts size bytes x
 gap_some from [] size bytes x o e = chosen (nat_le (from + bytes) size) refl e
   where
     chosen : (v : Bool) → nat_le (from + bytes) size ≡ v → cond v (Some from) None ≡ Some x → IsGap from [] size bytes x
@@ -189,7 +189,7 @@ gap_some from (p ∷ ps) size bytes x o e = chosen (nat_le (from + bytes) p.plac
           ];
         }
 
-gap_none : (from : ℕ) (parts : List Part) (size bytes : ℕ) → LieInOrder from parts size → lowest_gap from parts size bytes ≡ None → (lower : ℕ) → from ≤ lower → IsFree parts size (part_at lower bytes) → ⊥
+gap_none : (from : ℕ) (parts : List Extent) (size bytes : ℕ) → LieInOrder from parts size → lowest_gap from parts size bytes ≡ None → (lower : ℕ) → from ≤ lower → IsFree parts size (part_at lower bytes) → ⊥
 gap_none from [] size bytes o e lower from_on free = chosen (nat_le (from + bytes) size) refl e
   where
     chosen : (v : Bool) → nat_le (from + bytes) size ≡ v → cond v (Some from) None ≡ None → ⊥
@@ -206,7 +206,7 @@ gap_none from (p ∷ ps) size bytes o e lower from_on free = chosen (nat_le (fro
     ]
 
 -- a free place below which none is free is the lowest gap
-pub gap_at : (parts : List Part) (size bytes x : ℕ) → LieInOrder 0 parts size → IsFree parts size (part_at x bytes) → NoneFreeBelow parts size bytes x → lowest_gap 0 parts size bytes ≡ Some x
+pub gap_at : (parts : List Extent) (size bytes x : ℕ) → LieInOrder 0 parts size → IsFree parts size (part_at x bytes) → NoneFreeBelow parts size bytes x → lowest_gap 0 parts size bytes ≡ Some x
 gap_at parts size bytes x o free below = chosen (lowest_gap 0 parts size bytes) refl
   where
     chosen : (found : Option ℕ) → lowest_gap 0 parts size bytes ≡ found → lowest_gap 0 parts size bytes ≡ Some x
@@ -223,7 +223,7 @@ gap_at parts size bytes x o free below = chosen (lowest_gap 0 parts size bytes) 
         e ∙ ap Some same
 
 -- where no place is free there is no gap
-pub no_gap : (parts : List Part) (size bytes : ℕ) → LieInOrder 0 parts size → NoneFree parts size bytes → lowest_gap 0 parts size bytes ≡ None
+pub no_gap : (parts : List Extent) (size bytes : ℕ) → LieInOrder 0 parts size → NoneFree parts size bytes → lowest_gap 0 parts size bytes ≡ None
 no_gap parts size bytes o none = chosen (lowest_gap 0 parts size bytes) refl
   where
     chosen : (found : Option ℕ) → lowest_gap 0 parts size bytes ≡ found → lowest_gap 0 parts size bytes ≡ None

@@ -2,7 +2,7 @@
 use Rattle.std.proofs.Common.{ℕ, ◌≡◌, ◌≢◌, ◌+◌, ◌≤◌, Bool, true, false, cond, List, [], ◌∷◌, map, find, refl, sym, ap, subst, ◌∙◌}
 use Rattle.std.specs.List.{AllByRecursion}
 use Rattle.std.specs.Option.{option_map}
-use Rattle.extent_map.specs.declared.part.Part.{Part}
+use Rattle.extent_map.specs.declared.part.Extent.{Extent}
 use Rattle.extent_map.specs.Parts.{AreApart, inserted}
 use Rattle.metatile_locks.proofs.Lists.{all_map, all_weaker}
 use Rattle.metatile_plan.specs.declared.metatile.MetaKey.{MetaKey}
@@ -65,7 +65,7 @@ module _ (m : MetaKey) (n : ℕ) where
   disjoint_set (t ∷ ts) a = (
     all_map (with_uses m n) (λ y. AreApart (region (with_uses m n t)) (region y)) ts
         (all_weaker (λ y. AreApart (region t) (region y)) (λ y. AreApart (region (with_uses m n t)) (region (with_uses m n y)))
-        (λ y h. subst (λ (p : Part). AreApart p (region (with_uses m n y))) (sym (set_same region (λ x. refl) t)) (subst (λ (q : Part). AreApart (region t) q) (sym (set_same region (λ x. refl) y)) h)) ts a.0),
+        (λ y h. subst (λ (p : Extent). AreApart p (region (with_uses m n y))) (sym (set_same region (λ x. refl) t)) (subst (λ (q : Extent). AreApart (region t) q) (sym (set_same region (λ x. refl) y)) h)) ts a.0),
     disjoint_set ts a.1,
   )
 

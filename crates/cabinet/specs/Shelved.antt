@@ -9,7 +9,7 @@ use Rattle.expiry_policy.specs.declared.uses.Use.{Use}
 use Rattle.expiry_policy.specs.Victims.{Counts, IsUnsaved, IsVictim, one_more, use_of}
 use Rattle.expiry_policy.specs.Victims as victims
 use Rattle.extent_map.specs.Spaces.{Space, IsSound}
-use Rattle.kept_areas.specs.declared.spot.Spot.{Spot}
+use Rattle.kept_areas.specs.declared.spot.KeptSpot.{KeptSpot}
 use Rattle.matrix_geometry.specs.declared.address.Address.{Address}
 use Rattle.metatile_locks.specs.Tickets.{Ticketed}
 use Rattle.metatile_plan.specs.declared.metatile.MetaKey.{MetaKey}
@@ -37,7 +37,7 @@ use Rattle.cabinet.specs.State.{IsLong, blobs_counted, blobs_spared, blobs_with,
 pub record Stored : Type 0 where
   pub blobs : List KeptBlob
   pub held : List KeptBlob
-  pub chunks : List (List Spot)
+  pub chunks : List (List KeptSpot)
   pub spare : ℕ
 
 -- the catalogue, what is kept with its blobs, the uses of each layer, in an order of which nothing is said, the count of entries

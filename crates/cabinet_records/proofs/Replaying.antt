@@ -8,7 +8,7 @@ use Rattle.std.proofs.lemmas.List.{length-map}
 use Rattle.std.proofs.lemmas.List.Elements.{All-from_recursion, All-nil}
 use Rattle.catalog.specs.declared.catalogue.Catalogue.{Catalogue}
 use Rattle.catalog.specs.Valid.{IsValid}
-use Rattle.extent_map.specs.declared.part.Part.{Part}
+use Rattle.extent_map.specs.declared.part.Extent.{Extent}
 use Rattle.extent_map.specs.Parts.{AreApart}
 use Rattle.metatile_locks.proofs.Lists.{all_filter, all_map, all_passed, all_weaker, few}
 use Rattle.metatile_plan.specs.declared.metatile.MetaKey.{MetaKey}
@@ -92,7 +92,7 @@ disjoint_push : (ts : List Kept) (u : Kept) → AreDisjoint ts → AllByRecursio
 disjoint_push [] u a b = (tt, tt)
 disjoint_push (t ∷ ts) u a b = (all_push (λ x. AreApart (region t) (region x)) ts u a.0 b.0, disjoint_push ts u a.1 b.1)
 
-other_side : (p q : Part) → AreApart p q → AreApart q p
+other_side : (p q : Extent) → AreApart p q → AreApart q p
 other_side p q (inl a) = inr a
 other_side p q (inr b) = inl b
 
@@ -116,7 +116,7 @@ disjoint_same f same [] a = tt
 disjoint_same f same (t ∷ ts) a = (
   all_map f (λ y. AreApart (region (f t)) (region y)) ts
       (all_weaker (λ y. AreApart (region t) (region y)) (λ y. AreApart (region (f t)) (region (f y)))
-      (λ y h. subst (λ (p : Part). AreApart p (region (f y))) (sym (same t)) (subst (λ (q : Part). AreApart (region t) q) (sym (same y)) h)) ts a.0),
+      (λ y h. subst (λ (p : Extent). AreApart p (region (f y))) (sym (same t)) (subst (λ (q : Extent). AreApart (region t) q) (sym (same y)) h)) ts a.0),
   disjoint_same f same ts a.1,
 )
 

@@ -5,7 +5,7 @@ use Rattle.std.specs.List.{AllByRecursion, Contains}
 use Rattle.std.specs.Option.{option_or}
 use Rattle.std.proofs.lemmas.Bool.Decides.{nat_tests}
 use Rattle.std.proofs.lemmas.List.Folds.{find-append}
-use Rattle.extent_map.specs.declared.part.Part.{Part}
+use Rattle.extent_map.specs.declared.part.Extent.{Extent}
 use Rattle.extent_map.specs.Parts.{LieInOrder, inserted}
 use Rattle.extent_map.specs.Spaces.{IsSound, IsTaken, Space}
 use Rattle.metatile_locks.proofs.Lists.{all_filter, all_joined, all_map, all_weaker}
@@ -120,17 +120,17 @@ pub region_there : (kept : List Kept) (space : Space) (m : MetaKey) (t : Kept) �
 region_there kept space m t once parts order e =
     let one = one_kept m t kept once e in
     let whole = parts ∙ ap regions one.there in
-    whole ∙ one_of 0 one.before t one.behind space.size (subst (λ (ps : List Part). LieInOrder 0 ps space.size) whole order) ∙ ap (λ (ts : List Kept). inserted (region t) (regions ts)) (sym one.others)
+    whole ∙ one_of 0 one.before t one.behind space.size (subst (λ (ps : List Extent). LieInOrder 0 ps space.size) whole order) ∙ ap (λ (ts : List Kept). inserted (region t) (regions ts)) (sym one.others)
 
 pub region_taken : (next : ℕ) (kept : List Kept) (space : Space) (places : ℕ → Option ℕ) (m : MetaKey) (t : Kept) → AreTied next kept space places → find (is_of m) kept ≡ Some t → Contains space.parts (region t)
 region_taken next kept space places m t a e =
-    subst (λ (ps : List Part). Contains ps (region t)) (sym (region_there kept space m t a.once a.parts a.order e)) (has_inserted (region t) (regions (but m kept)))
+    subst (λ (ps : List Extent). Contains ps (region t)) (sym (region_there kept space m t a.once a.parts a.order e)) (has_inserted (region t) (regions (but m kept)))
 
 pub dropped_tied : (next : ℕ) (kept : List Kept) (space given : Space) (places later : ℕ → Option ℕ) (m : MetaKey) (t : Kept) → AreTied next kept space places → find (is_of m) kept ≡ Some t → IsSound given → IsTaken given (region t) space
     → ((n : ℕ) → later n ≡ cond (t.number == n) None (places n)) → AreTied next (but m kept) given later
 dropped_tied next kept space given places later m t a e sound taken is = record {
   once = apart_filter (λ (t : Kept). t.meta) (λ t. not (is_of m t)) kept a.once;
-  parts = taken_out 0 (region t) given.parts (regions (but m kept)) space.size (subst (λ (ps : List Part). LieInOrder 0 ps space.size) taken.entered a.order) (sym taken.entered ∙ region_there kept space m t a.once a.parts a.order e);
+  parts = taken_out 0 (region t) given.parts (regions (but m kept)) space.size (subst (λ (ps : List Extent). LieInOrder 0 ps space.size) taken.entered a.order) (sym taken.entered ∙ region_there kept space m t a.once a.parts a.order e);
   order = sound;
   placed = dropped_placed places later next kept m t a.once a.placed e is;
 }
@@ -190,8 +190,8 @@ pub pushed_tied : (next : ℕ) (kept : List Kept) (space taken : Space) (places 
     → IsSound taken → IsTaken space (region t) taken → ((n : ℕ) → later n ≡ cond (t.number == n) (Some next) (places n)) → AreTied (next + 1) (kept ++ t ∷ []) taken later
 pushed_tied next kept space taken places later t a differ off sound took is = record {
   once = apart_push (λ (t : Kept). t.meta) kept t a.once off;
-  parts = took.entered ∙ ap (inserted (region t)) a.parts ∙ sym (last_of t kept (subst (λ (ps : List Part). AllByRecursion (λ x. x.place ≢ t.place) ps) a.parts
-      (alone 0 (region t) space.parts taken.size (subst (λ (ps : List Part). LieInOrder 0 ps taken.size) took.entered sound)).places));
+  parts = took.entered ∙ ap (inserted (region t)) a.parts ∙ sym (last_of t kept (subst (λ (ps : List Extent). AllByRecursion (λ x. x.place ≢ t.place) ps) a.parts
+      (alone 0 (region t) space.parts taken.size (subst (λ (ps : List Extent). LieInOrder 0 ps taken.size) took.entered sound)).places));
   order = sound;
   placed = pushed_placed places later next kept t a.placed differ is;
 }

@@ -3,7 +3,7 @@ use Rattle.std.specs.Prelude.{ℕ, if◌then◌else◌, ◌==◌, ◌↔◌, ◌
 use Rattle.std.specs.List.{AllByRecursion}
 use Rattle.std.specs.declared.alloc.AllocError.{AllocError}
 use Rattle.catalog.specs.declared.catalogue.Catalogue.{Catalogue}
-use Rattle.extent_map.specs.declared.part.Part.{Part}
+use Rattle.extent_map.specs.declared.part.Extent.{Extent}
 use Rattle.extent_map.specs.Spaces.{IsFree, IsSound, IsTaken, Space}
 use Rattle.indexmap.specs.IndexMap.{spare}
 use Rattle.matrix_geometry.specs.declared.matrix.Matrix.{Matrix}
@@ -72,7 +72,7 @@ pub record HasRoom (p : ReplayProgress) : Type 0 where
   pub out : length p.store.blobs < vec_capacity p.out
 
 -- the region of what was kept before, if anything was, was given back, and the part was taken where it was free then
-pub record ClaimsRegion (old : Space) (older : Option Kept) (p : Part) (is : Bool) (new : Space) : Type 0 where
+pub record ClaimsRegion (old : Space) (older : Option Kept) (p : Extent) (is : Bool) (new : Space) : Type 0 where
   pub given : Space
   pub back : IfSome older (λ t. IsTaken given (region t) old)
   pub left : IfNone older (given ≡ old)

@@ -19,7 +19,7 @@ use std::alloc::{AllocError, Global};
 
 impl<D: Disk> Feed<D> {
     /// Marks a change of which the cut was done.
-    fn marked(&mut self, change: &Change, cut: u64) -> Applied
+    fn mark_change(&mut self, change: &Change, cut: u64) -> Applied
         requires ready { IsReady self.old.file.journal }
         requires next { change.now.number ≡ last_of self.old.stand.mark + 1 }
         ensures told { D.told self.new.file.disk ≡ D.told self.old.file.disk }
@@ -69,7 +69,7 @@ impl<D: Disk> Feed<D> {
             Ok(CutReply::Spent) => Ok(Applied::Spent),
             Ok(CutReply::Full) => Ok(Applied::Full),
             Ok(CutReply::DiskFault(before, after)) => Ok(Applied::DiskFault(before, after)),
-            Ok(CutReply::Done(cut)) => Ok(self.marked(change, cut)),
+            Ok(CutReply::Done(cut)) => Ok(self.mark_change(change, cut)),
         }
     }
 

@@ -62,7 +62,7 @@ fn or_fault(
     }
 }
 
-fn made(
+fn matrix_of_spacing(
     at: u32,
     spacing: &Spacing,
     meters: &Decimal,
@@ -103,7 +103,7 @@ fn matrix_of(
     let spacing = spacing_of(at, object)?;
     let tile = required_size(object, "tile", Field::Tile, at)?;
     let size = required_size(object, "size", Field::Size, at)?;
-    let matrix = made(at, &spacing, &ground.meters, &corner, tile, size)?;
+    let matrix = matrix_of_spacing(at, &spacing, &ground.meters, &corner, tile, size)?;
     Ok(NamedMatrix { id, matrix })
 }
 

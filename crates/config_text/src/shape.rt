@@ -62,7 +62,7 @@ pub(crate) fn required_size(
 }
 
 /// The number of a decimal text that isn't too long.
-fn limited(text: DecimalText, field: Field, at: u32) -> Result<Decimal, CatalogueFault>
+fn short_decimal(text: DecimalText, field: Field, at: u32) -> Result<Decimal, CatalogueFault>
     ensures { Gives (λ x. x) result (limited text field at) }
 {
     match text {
@@ -87,7 +87,7 @@ fn decimal(value: &Value, field: Field, at: u32) -> Result<Decimal, CatalogueFau
     ensures { Gives (λ x. x) result (decimal field at (view value.now)) }
 {
     let text = decimal_form(value, field, at)?;
-    limited(text, field, at)
+    short_decimal(text, field, at)
 }
 
 /// A decimal number that has to be there.
@@ -142,8 +142,8 @@ fn corner(value: &Value, field: Field, at: u32) -> Result<Corner, CatalogueFault
     let (left, top) = two(value, field, at)?;
     let left = decimal_form(left, field, at)?;
     let top = decimal_form(top, field, at)?;
-    let x = limited(left, field, at)?;
-    let y = limited(top, field, at)?;
+    let x = short_decimal(left, field, at)?;
+    let y = short_decimal(top, field, at)?;
     Ok(Corner { x, y })
 }
 

@@ -2,7 +2,7 @@
 use Rattle.std.proofs.Common.{ℕ, ◌≡◌, ◌+◌, ◌<◌, ◌≤◌, Bool, true, false, cond, List, [], ◌∷◌, Some, refl, inl, inr, arith}
 use Rattle.std.specs.Prelude.{nat_lt}
 use Rattle.std.proofs.lemmas.Bool.Decides.{nat_tests}
-use Rattle.extent_map.specs.declared.part.Part.{Part}
+use Rattle.extent_map.specs.declared.part.Extent.{Extent}
 use Rattle.extent_map.specs.Parts.{end_of, AreApart, LieInOrder, inserted}
 use Rattle.extent_map.specs.Spaces.{IsFree}
 use Rattle.metatile_locks.proofs.Lists.{all_weaker}
@@ -15,7 +15,7 @@ use Rattle.cabinet.proofs.Regions.{all_regions, gap_some}
 use Rattle.cache_file.specs.File.{IsApart}
 use Rattle.durable_cabinet.proofs.Blobs.{AreSpared}
 
-inserted_order : (low : ℕ) (p : Part) (xs : List Part) (high : ℕ) → LieInOrder low xs high → low ≤ p.place → 1 ≤ p.length → IsFree xs high p → LieInOrder low (inserted p xs) high
+inserted_order : (low : ℕ) (p : Extent) (xs : List Extent) (high : ℕ) → LieInOrder low xs high → low ≤ p.place → 1 ≤ p.length → IsFree xs high p → LieInOrder low (inserted p xs) high
 inserted_order low p [] high o l some free = (l, some, free.0)
 inserted_order low p (x ∷ xs) high o l some free = chosen (nat_lt p.place x.place) refl (λ over. inserted_order (end_of x) p xs high o.2 over some (free.0, free.1.1))
   where

@@ -41,7 +41,7 @@ fn key_of(address: &Address) -> TileKey
 }
 
 /// A text, where it is of the render of this number. `AllocError` where it has as many owners as may be.
-fn shared(found: &HotText, number: u64) -> Result<Option<SharedText>, AllocError>
+fn text_of_render(found: &HotText, number: u64) -> Result<Option<SharedText>, AllocError>
     ensures { IfOk result (λ found_text. IfSome found_text (λ text. (found.now.number ≡ number) × (text ≡ found.now.text))) }
 {
     if found.number != number {
@@ -85,7 +85,7 @@ impl HotTier {
     {
         match self.texts.peek(key) {
             None => Ok(None),
-            Some(found) => shared(found, number),
+            Some(found) => text_of_render(found, number),
         }
     }
 

@@ -3,7 +3,7 @@ use Rattle.std.proofs.Common.{ℕ, ◌≡◌, ◌≢◌, ◌<◌, Bool, true, fa
 use Rattle.metatile_plan.proofs.Same.{same_meta_is}
 use Rattle.metatile_plan.specs.declared.metatile.MetaKey.{MetaKey}
 use Rattle.metatile_plan.specs.Keys.{same_meta}
-use Rattle.expiry_policy.specs.declared.held.Tally.{Tally}
+use Rattle.expiry_policy.specs.declared.held.UseTally.{UseTally}
 use Rattle.expiry_policy.specs.declared.order.Order.{Order}
 use Rattle.expiry_policy.specs.declared.order.Ranking.{Ranking}
 use Rattle.expiry_policy.specs.declared.uses.Use.{Use}
@@ -16,7 +16,7 @@ use Rattle.expiry_policy.proofs.Lookups.{found_at, get_or-slice_get}
 use Rattle.expiry_policy.proofs.Rankings.{goes_ranks}
 use Rattle.expiry_policy.proofs.Winners.{first_of_ranked, ranked_alike}
 
-module _ (o : Order) (es fs : List (MetaKey × Tally)) where
+module _ (o : Order) (es fs : List (MetaKey × UseTally)) where
   -- the entry at an index may have changed
   pub changed_one : (ws : List ℕ) (at : ℕ) → IsRanked (goes o es) (length ws) (slice_index ws) → ((i : ℕ) → i < length ws → i ≢ at → use_at fs i ≡ use_at es i) → IsRankedUpTo (goes o fs) (length ws) (slice_index ws) at at
   changed_one ws at all same = changed_up_to (goes o es) (goes o fs) (length ws) (slice_index ws) at all (λ i j h k n m. λ t. precedes o (same i h n t) (same j k m t))
@@ -47,7 +47,7 @@ pub still_ordered : (r : Ranking) (old new : Order) → new ≡ old → old ≡ 
 still_ordered r old new e h = subst (λ (o : Order). o ≡ record { policy = o.policy; ranking = r }) (sym e) h
 
 -- the first winner leads
-pub winner_leads : (o : Order) (es : List (MetaKey × Tally)) (ws : List ℕ) (at : ℕ) (u : Use) → length ws ≡ length es → IsRanked (goes o es) (length ws) (slice_index ws) → slice_get ws 0 ≡ Some at
+pub winner_leads : (o : Order) (es : List (MetaKey × UseTally)) (ws : List ℕ) (at : ℕ) (u : Use) → length ws ≡ length es → IsRanked (goes o es) (length ws) (slice_index ws) → slice_get ws 0 ≡ Some at
     → u ≡ use_at es at → use_in (uses_of es) u.meta ≡ Some u → Leads o (λ _. true) (use_in (uses_of es)) u
 winner_leads o es ws at u size all first is found = record {
   held = found;

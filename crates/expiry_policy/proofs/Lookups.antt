@@ -12,7 +12,7 @@ use Rattle.metatile_plan.proofs.Same.{same_meta_is, same_meta_self}
 use Rattle.metatile_plan.specs.declared.metatile.MetaKey.{MetaKey}
 use Rattle.metatile_plan.specs.Keys.{same_meta}
 use Rattle.metatile_plan.specs.contracts.metatile.MetaKeyPartialEq.TheImpl.{eq-value as derived}
-use Rattle.expiry_policy.specs.declared.held.Tally.{Tally}
+use Rattle.expiry_policy.specs.declared.held.UseTally.{UseTally}
 use Rattle.expiry_policy.specs.declared.uses.Use.{Use}
 use Rattle.expiry_policy.specs.Entries.{as_use, nothing, use_at, uses_of}
 use Rattle.expiry_policy.specs.Layers.{use_in}
@@ -20,7 +20,7 @@ use Rattle.expiry_policy.specs.Victims.{is_of}
 use Rattle.expiry_policy.proofs.Finds.{find_passes}
 
 abbrev Entries : Type 0
-Entries = List (MetaKey × Tally)
+Entries = List (MetaKey × UseTally)
 
 -- KEYS
 
@@ -65,12 +65,12 @@ is_some-use_in m es = ap is_some (use_in-lookup m es) ∙ is_some-map (λ t. as_
 pub absent_lookup : (m : MetaKey) (es : Entries) → use_in (uses_of es) m ≡ None → lookup (same_meta m) es ≡ None
 absent_lookup m es e = by (lookup (same_meta m) es) (sym (use_in-lookup m es) ∙ e)
   where
-    by : (o : Option Tally) → option_map (λ t. as_use (m, t)) o ≡ None → o ≡ None
+    by : (o : Option UseTally) → option_map (λ t. as_use (m, t)) o ≡ None → o ≡ None
     by None e = refl
     by (Some t) e = absurd (cc)
 
 -- the use that the key of an entry is found to have
-pub found_use : (m : MetaKey) (t : Tally) (es : Entries) → lookup (same_meta m) es ≡ Some t → use_in (uses_of es) m ≡ Some (as_use (m, t))
+pub found_use : (m : MetaKey) (t : UseTally) (es : Entries) → lookup (same_meta m) es ≡ Some t → use_in (uses_of es) m ≡ Some (as_use (m, t))
 found_use m t es e = use_in-lookup m es ∙ ap (option_map (λ t. as_use (m, t))) e
 
 pub absent_use : (m : MetaKey) (es : Entries) → lookup (same_meta m) es ≡ None → use_in (uses_of es) m ≡ None
@@ -99,12 +99,12 @@ slice_get-get_or [] i d h = absurd (omega arith)
 slice_get-get_or (y ∷ ys) zero d h = refl
 slice_get-get_or (y ∷ ys) (suc i) d h = slice_get-get_or ys i d (omega arith)
 
-pub use_at-entry : (es : Entries) (i : ℕ) (e : MetaKey × Tally) → slice_get es i ≡ Some e → use_at es i ≡ as_use e
+pub use_at-entry : (es : Entries) (i : ℕ) (e : MetaKey × UseTally) → slice_get es i ≡ Some e → use_at es i ≡ as_use e
 unfolding use_at
 use_at-entry es i e at = ap as_use (get_or-slice_get es i e nothing at)
 
 -- the entry at an index has the key of its use
-pub entry_at_use : (es : Entries) (i : ℕ) → i < length es → (t : Tally) × (slice_get es i ≡ Some ((use_at es i).meta, t))
+pub entry_at_use : (es : Entries) (i : ℕ) → i < length es → (t : UseTally) × (slice_get es i ≡ Some ((use_at es i).meta, t))
 unfolding use_at
 entry_at_use es i h = ((get_or es i nothing).1, slice_get-get_or es i nothing h)
 
@@ -121,7 +121,7 @@ meta_at_position m es i e =
 
 -- AFTER A CHANGE
 
-pub use_at-set_value : (es : Entries) (at i : ℕ) (w : Tally) → i ≢ at → use_at (set_value_at es at w) i ≡ use_at es i
+pub use_at-set_value : (es : Entries) (at i : ℕ) (w : UseTally) → i ≢ at → use_at (set_value_at es at w) i ≡ use_at es i
 unfolding use_at
 use_at-set_value [] at i w n = refl
 use_at-set_value (e ∷ es) zero zero w n = absurd (n refl)
@@ -129,18 +129,18 @@ use_at-set_value (e ∷ es) zero (suc i) w n = refl
 use_at-set_value (e ∷ es) (suc at) zero w n = refl
 use_at-set_value (e ∷ es) (suc at) (suc i) w n = use_at-set_value es at i w (λ e. n (ap suc e))
 
-pub use_at-push : (es : Entries) (e : MetaKey × Tally) (i : ℕ) → i < length es → use_at (es ++ e ∷ []) i ≡ use_at es i
+pub use_at-push : (es : Entries) (e : MetaKey × UseTally) (i : ℕ) → i < length es → use_at (es ++ e ∷ []) i ≡ use_at es i
 unfolding use_at
 use_at-push [] e i h = absurd (omega arith)
 use_at-push (x ∷ xs) e zero h = refl
 use_at-push (x ∷ xs) e (suc i) h = use_at-push xs e i (omega arith)
 
-pub use_at-swap_remove : (es : Entries) (at i : ℕ) (d : MetaKey × Tally) → i < length es - 1 → i ≢ at → use_at (take (length es - 1) (set es at (get_or es (length es - 1) d))) i ≡ use_at es i
+pub use_at-swap_remove : (es : Entries) (at i : ℕ) (d : MetaKey × UseTally) → i < length es - 1 → i ≢ at → use_at (take (length es - 1) (set es at (get_or es (length es - 1) d))) i ≡ use_at es i
 unfolding use_at
 use_at-swap_remove es at i d h n = ap as_use (get_or-take (length es - 1) (set es at (get_or es (length es - 1) d)) i nothing h ∙ get_or-set_other es at i (get_or es (length es - 1) d) nothing n)
 
 -- the use of each key, where one key has another tally or none
-pub use_in-updated : (m k : MetaKey) (es later : Entries) (w : Option Tally) → lookup (same_meta m) later ≡ cond (same_meta k m) w (lookup (same_meta m) es)
+pub use_in-updated : (m k : MetaKey) (es later : Entries) (w : Option UseTally) → lookup (same_meta m) later ≡ cond (same_meta k m) w (lookup (same_meta m) es)
     → use_in (uses_of later) m ≡ cond (same_meta m k) (option_map (λ t. as_use (k, t)) w) (use_in (uses_of es) m)
 use_in-updated m k es later w e =
     use_in-lookup m later ∙ ap (option_map (λ t. as_use (m, t))) (e ∙ ap (λ b. cond b w (lookup (same_meta m) es)) (same_meta_turned k m)) ∙ by (same_meta m k) refl

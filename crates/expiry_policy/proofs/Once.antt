@@ -5,7 +5,7 @@ use Rattle.std.specs.Map.{keys_of}
 use Rattle.metatile_plan.proofs.Same.{same_meta_self}
 use Rattle.metatile_plan.specs.declared.metatile.MetaKey.{MetaKey}
 use Rattle.metatile_plan.specs.Keys.{same_meta}
-use Rattle.expiry_policy.specs.declared.held.Tally.{Tally}
+use Rattle.expiry_policy.specs.declared.held.UseTally.{UseTally}
 use Rattle.expiry_policy.specs.declared.uses.Use.{Use}
 use Rattle.expiry_policy.specs.Entries.{uses_of}
 use Rattle.expiry_policy.specs.Layers.{use_in}
@@ -14,12 +14,12 @@ use Rattle.expiry_policy.specs.Victims.{AreApart, is_of}
 differs : (m n : MetaKey) → same_meta m n ≡ false → m ≢ n
 differs m n off same = absurd (true≢false (sym (subst (λ k. same_meta m k ≡ true) same (same_meta_self m)) ∙ off))
 
-apart_from : (m : MetaKey) (es : List (MetaKey × Tally)) → AllByRecursion (λ k. same_meta m k ≡ false) (keys_of es) → AllByRecursion (λ (u : Use). m ≢ u.meta) (uses_of es)
+apart_from : (m : MetaKey) (es : List (MetaKey × UseTally)) → AllByRecursion (λ k. same_meta m k ≡ false) (keys_of es) → AllByRecursion (λ (u : Use). m ≢ u.meta) (uses_of es)
 apart_from m [] d = tt
 apart_from m (e ∷ es) d = (differs m e.0 d.0, apart_from m es d.1)
 
 -- each metatile has one entry
-pub uses_apart : (es : List (MetaKey × Tally)) → IsDistinct same_meta (keys_of es) → AreApart (uses_of es)
+pub uses_apart : (es : List (MetaKey × UseTally)) → IsDistinct same_meta (keys_of es) → AreApart (uses_of es)
 unfolding IsDistinct
 uses_apart [] d = tt
 uses_apart (e ∷ es) d = (apart_from e.0 es d.0, uses_apart es d.1)

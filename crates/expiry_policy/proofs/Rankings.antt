@@ -5,7 +5,7 @@ use Rattle.std.specs.Cmp.Lexicographic.{on_texts, slice_cmp}
 use Rattle.std.specs.Ordering.{is_lt, nat_cmp, on, ordering_reverse}
 use Rattle.std.proofs.lemmas.Cmp.{tied_itself}
 use Rattle.metatile_plan.specs.declared.metatile.MetaKey.{MetaKey}
-use Rattle.expiry_policy.specs.declared.held.Tally.{Tally}
+use Rattle.expiry_policy.specs.declared.held.UseTally.{UseTally}
 use Rattle.expiry_policy.specs.declared.order.Order.{Order}
 use Rattle.expiry_policy.specs.declared.uses.Use.{Use}
 use Rattle.expiry_policy.specs.Entries.{goes, use_at}
@@ -34,7 +34,7 @@ pub precedes_through : (o : Order) (u v w : Use) → precedes o v u ≡ false �
 unfolding precedes
 precedes_through o u v w h k = stays_through (cmp_ranked o) (ranked_total o) u v w h k
 
-pub goes_ranks : (o : Order) (es : List (MetaKey × Tally)) → IsRanking (goes o es)
+pub goes_ranks : (o : Order) (es : List (MetaKey × UseTally)) → IsRanking (goes o es)
 goes_ranks o es = record {
   alone = λ a. precedes_alone o (use_at es a);
   one_way = λ a b h. precedes_one_way o (use_at es a) (use_at es b) h;

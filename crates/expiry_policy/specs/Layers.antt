@@ -2,7 +2,7 @@
 use Rattle.std.specs.Prelude.{ℕ, ◌≡◌, ◌≤◌, List, [], length, find, slice_get, slice_index, Option, Some, None, option_and_then, ⊤}
 use Rattle.catalog.specs.declared.catalogue.Policy.{Policy}
 use Rattle.metatile_plan.specs.declared.metatile.MetaKey.{MetaKey}
-use Rattle.expiry_policy.specs.declared.held.Tally.{Tally}
+use Rattle.expiry_policy.specs.declared.held.UseTally.{UseTally}
 use Rattle.expiry_policy.specs.declared.order.Order.{Order}
 use Rattle.expiry_policy.specs.declared.order.Ranking.TheVariants.{Expiry, Unsaved}
 use Rattle.expiry_policy.specs.declared.tournament.Tournament.{Tournament}
@@ -28,13 +28,13 @@ abbrev pub use_among : List OfLayer → MetaKey → Option Use
 use_among layers m = option_and_then (λ l. use_in l.uses m) (slice_get layers m.theme.layer)
 
 -- the tournament is one of all these entries, in this order
-pub record Stands (o : Order) (es : List (MetaKey × Tally)) (t : Tournament) : Type 0 where
+pub record Stands (o : Order) (es : List (MetaKey × UseTally)) (t : Tournament) : Type 0 where
   pub order : t.order ≡ o
   pub size : length t.winners.items ≡ length es
   pub ranked : IsRanked (goes t.order es) (length t.winners.items) (slice_index t.winners.items)
 
 -- the keys are of the layer, and both tournaments are those of the entries
-pub record IsOfLayer (number : ℕ) (p : Policy) (es : List (MetaKey × Tally)) (victims others : Tournament) : Type 0 where
+pub record IsOfLayer (number : ℕ) (p : Policy) (es : List (MetaKey × UseTally)) (victims others : Tournament) : Type 0 where
   pub numbered : (m : MetaKey) (u : Use) → use_in (uses_of es) m ≡ Some u → m.theme.layer ≡ number
   pub expiry : Stands (record { policy = p; ranking = Expiry }) es victims
   pub unsaved : Stands (record { policy = p; ranking = Unsaved }) es others

@@ -13,7 +13,7 @@ use metatile_plan::MetaKey;
 
 /// What is counted of a metatile.
 #[derive(Clone, Copy, PartialEq, Eq)]
-pub struct Tally {
+pub struct UseTally {
     /// How often it was used, since it was entered last.
     pub uses: u64,
     /// How many of the uses are saved.
@@ -23,10 +23,10 @@ pub struct Tally {
 }
 
 /// The metatiles of one layer, with what is counted of each.
-pub type Held = IndexMap<MetaKey, Tally>;
+pub type Held = IndexMap<MetaKey, UseTally>;
 
 /// The use that an entry stands for.
-pub fn use_of(meta: &MetaKey, tally: &Tally) -> Use
+pub fn use_of(meta: &MetaKey, tally: &UseTally) -> Use
     ensures { result ≡ record { meta = meta.now; uses = tally.now.uses; saved = tally.now.saved; last = tally.now.last } }
 {
     Use {
@@ -75,7 +75,7 @@ pub fn change(held: &mut Held, at: usize, entry: &Use)
     ensures spare { spare held.new ≡ spare held.old }
 {
     let _count = held.len();
-    held[at] = Tally {
+    held[at] = UseTally {
         uses: entry.uses,
         saved: entry.saved,
         last: entry.last,
@@ -91,7 +91,7 @@ pub fn add(held: &mut Held, entry: &Use)
     ensures uses { (m : MetaKey) → use_in (uses_of held.new.entries) m ≡ (if same_meta m entry.now.meta then Some entry.now else use_in (uses_of held.old.entries) m) }
     ensures spare { spare held.old ≤ spare held.new + 1 }
 {
-    let tally = Tally {
+    let tally = UseTally {
         uses: entry.uses,
         saved: entry.saved,
         last: entry.last,

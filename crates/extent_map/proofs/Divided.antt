@@ -4,85 +4,85 @@ use Rattle.std.specs.List.{insert}
 use Rattle.std.specs.Option.{option_to_list}
 use Rattle.std.proofs.lemmas.List.{append_assoc, take-append-drop, take-take, drop-take, drop-drop, drop-append-le, length-take-le, length-set, length_push, get_or_push}
 use Rattle.std.proofs.lemmas.List.Edits.{length-insert}
-use Rattle.extent_map.specs.declared.part.Part.{Part}
+use Rattle.extent_map.specs.declared.part.Extent.{Extent}
 use Rattle.extent_map.specs.Chunks.{all_parts, chunk_at, parts_before, parts_behind, IsDivided, IsUsed}
 use Rattle.extent_map.proofs.InChunks.{all_with_free}
 use Rattle.extent_map.proofs.Used.{none_last}
 
 -- THE FREE CHUNK
 
-pub popped : (old pss : List (List Part)) (last : Option (List Part)) (fresh : List Part) (used : ℕ) → old ≡ pss ++ option_to_list last → last ≡ Some fresh → used < length old → IsUsed old used → (fresh ≡ []) × (old ≡ pss ++ [] ∷ [])
+pub popped : (old pss : List (List Extent)) (last : Option (List Extent)) (fresh : List Extent) (used : ℕ) → old ≡ pss ++ option_to_list last → last ≡ Some fresh → used < length old → IsUsed old used → (fresh ≡ []) × (old ≡ pss ++ [] ∷ [])
 popped old pss last fresh used items is free first =
-    let whole : old ≡ pss ++ fresh ∷ [] = items ∙ ap (λ (o : Option (List Part)). pss ++ option_to_list o) is in
+    let whole : old ≡ pss ++ fresh ∷ [] = items ∙ ap (λ (o : Option (List Extent)). pss ++ option_to_list o) is in
     let long : length old ≡ length pss + 1 = ap length whole ∙ length_push pss fresh in
     let place : length pss ≡ length old - 1 = omega arith in
-    let read : get_or old (length old - 1) [] ≡ fresh = ap (λ (qss : List (List Part)). get_or qss (length old - 1) []) whole ∙ get_or_push pss fresh [] (length old - 1) place in
+    let read : get_or old (length old - 1) [] ≡ fresh = ap (λ (qss : List (List Extent)). get_or qss (length old - 1) []) whole ∙ get_or_push pss fresh [] (length old - 1) place in
     let none : fresh ≡ [] = sym read ∙ none_last old used [] free first.none in
-    (none, whole ∙ ap (λ (f : List Part). pss ++ f ∷ []) none)
+    (none, whole ∙ ap (λ (f : List Extent). pss ++ f ∷ []) none)
 
 -- ONE CHUNK DIVIDED
 
 -- the chunks where one is divided
-abbrev pub halves : List (List Part) → ℕ → ℕ → List Part → List (List Part)
+abbrev pub halves : List (List Extent) → ℕ → ℕ → List Extent → List (List Extent)
 halves pss chunk kept d = insert (set pss chunk (take kept (get_or pss chunk d))) (suc chunk) (drop kept (get_or pss chunk d))
 
-take_apart : (kept more : ℕ) (ps : List Part) → take kept ps ++ take more (drop kept ps) ≡ take (kept + more) ps
+take_apart : (kept more : ℕ) (ps : List Extent) → take kept ps ++ take more (drop kept ps) ≡ take (kept + more) ps
 take_apart kept more ps =
-    ap (λ (qs : List Part). qs ++ take more (drop kept ps)) (sym (take-take kept (kept + more) ps (omega arith))) ∙ ap (λ (qs : List Part). take kept (take (kept + more) ps) ++ qs) (sym (drop-take kept more ps)) ∙ take-append-drop kept (take (kept + more) ps)
+    ap (λ (qs : List Extent). qs ++ take more (drop kept ps)) (sym (take-take kept (kept + more) ps (omega arith))) ∙ ap (λ (qs : List Extent). take kept (take (kept + more) ps) ++ qs) (sym (drop-take kept more ps)) ∙ take-append-drop kept (take (kept + more) ps)
 
-drop_apart : (index kept : ℕ) (ps : List Part) → index ≤ kept → kept ≤ length ps → drop index (take kept ps) ++ drop kept ps ≡ drop index ps
+drop_apart : (index kept : ℕ) (ps : List Extent) → index ≤ kept → kept ≤ length ps → drop index (take kept ps) ++ drop kept ps ≡ drop index ps
 drop_apart index kept ps l m =
     let n = length-take-le kept ps m in
     sym (drop-append-le index (take kept ps) (drop kept ps) (omega arith)) ∙ ap (drop index) (take-append-drop kept ps)
 
-before_left : (pss : List (List Part)) (chunk kept index : ℕ) (d : List Part) → chunk < length pss → index ≤ kept → parts_before (halves pss chunk kept d) chunk index ≡ parts_before pss chunk index
+before_left : (pss : List (List Extent)) (chunk kept index : ℕ) (d : List Extent) → chunk < length pss → index ≤ kept → parts_before (halves pss chunk kept d) chunk index ≡ parts_before pss chunk index
 before_left [] chunk kept index d l m = absurd (omega arith)
 before_left (ps ∷ pss) zero kept index d l m = take-take index kept ps m
-before_left (ps ∷ pss) (suc chunk) kept index d l m = ap (λ (qs : List Part). ps ++ qs) (before_left pss chunk kept index d (omega arith) m)
+before_left (ps ∷ pss) (suc chunk) kept index d l m = ap (λ (qs : List Extent). ps ++ qs) (before_left pss chunk kept index d (omega arith) m)
 
-behind_left : (pss : List (List Part)) (chunk kept index : ℕ) (d : List Part) → chunk < length pss → index ≤ kept → kept ≤ length (get_or pss chunk d) → parts_behind (halves pss chunk kept d) chunk index ≡ parts_behind pss chunk index
+behind_left : (pss : List (List Extent)) (chunk kept index : ℕ) (d : List Extent) → chunk < length pss → index ≤ kept → kept ≤ length (get_or pss chunk d) → parts_behind (halves pss chunk kept d) chunk index ≡ parts_behind pss chunk index
 behind_left [] chunk kept index d l m n = absurd (omega arith)
 behind_left (ps ∷ pss) zero kept index d l m n =
-    sym (append_assoc (drop index (take kept ps)) (drop kept ps) (all_parts pss)) ∙ ap (λ (qs : List Part). qs ++ all_parts pss) (drop_apart index kept ps m n)
+    sym (append_assoc (drop index (take kept ps)) (drop kept ps) (all_parts pss)) ∙ ap (λ (qs : List Extent). qs ++ all_parts pss) (drop_apart index kept ps m n)
 behind_left (ps ∷ pss) (suc chunk) kept index d l m n = behind_left pss chunk kept index d (omega arith) m n
 
-before_right : (pss : List (List Part)) (chunk kept more : ℕ) (d : List Part) → chunk < length pss → parts_before (halves pss chunk kept d) (suc chunk) more ≡ parts_before pss chunk (kept + more)
+before_right : (pss : List (List Extent)) (chunk kept more : ℕ) (d : List Extent) → chunk < length pss → parts_before (halves pss chunk kept d) (suc chunk) more ≡ parts_before pss chunk (kept + more)
 before_right [] chunk kept more d l = absurd (omega arith)
 before_right (ps ∷ pss) zero kept more d l = take_apart kept more ps
-before_right (ps ∷ pss) (suc chunk) kept more d l = ap (λ (qs : List Part). ps ++ qs) (before_right pss chunk kept more d (omega arith))
+before_right (ps ∷ pss) (suc chunk) kept more d l = ap (λ (qs : List Extent). ps ++ qs) (before_right pss chunk kept more d (omega arith))
 
-behind_right : (pss : List (List Part)) (chunk kept more : ℕ) (d : List Part) → chunk < length pss → parts_behind (halves pss chunk kept d) (suc chunk) more ≡ parts_behind pss chunk (kept + more)
+behind_right : (pss : List (List Extent)) (chunk kept more : ℕ) (d : List Extent) → chunk < length pss → parts_behind (halves pss chunk kept d) (suc chunk) more ≡ parts_behind pss chunk (kept + more)
 behind_right [] chunk kept more d l = absurd (omega arith)
-behind_right (ps ∷ pss) zero kept more d l = ap (λ (qs : List Part). qs ++ all_parts pss) (drop-drop more kept ps)
+behind_right (ps ∷ pss) zero kept more d l = ap (λ (qs : List Extent). qs ++ all_parts pss) (drop-drop more kept ps)
 behind_right (ps ∷ pss) (suc chunk) kept more d l = behind_right pss chunk kept more d (omega arith)
 
-at_left : (pss : List (List Part)) (chunk kept : ℕ) (d : List Part) → chunk < length pss → chunk_at (halves pss chunk kept d) chunk ≡ take kept (get_or pss chunk d)
+at_left : (pss : List (List Extent)) (chunk kept : ℕ) (d : List Extent) → chunk < length pss → chunk_at (halves pss chunk kept d) chunk ≡ take kept (get_or pss chunk d)
 at_left [] chunk kept d l = absurd (omega arith)
 at_left (ps ∷ pss) zero kept d l = refl
 at_left (ps ∷ pss) (suc chunk) kept d l = at_left pss chunk kept d (omega arith)
 
-at_right : (pss : List (List Part)) (chunk kept : ℕ) (d : List Part) → chunk < length pss → chunk_at (halves pss chunk kept d) (suc chunk) ≡ drop kept (get_or pss chunk d)
+at_right : (pss : List (List Extent)) (chunk kept : ℕ) (d : List Extent) → chunk < length pss → chunk_at (halves pss chunk kept d) (suc chunk) ≡ drop kept (get_or pss chunk d)
 at_right [] chunk kept d l = absurd (omega arith)
 at_right (ps ∷ pss) zero kept d l = refl
 at_right (ps ∷ pss) (suc chunk) kept d l = at_right pss chunk kept d (omega arith)
 
 -- with a chunk with no part behind the others, all is as without it
-before_with_free : (pss : List (List Part)) (chunk index : ℕ) → chunk < length pss → parts_before (pss ++ [] ∷ []) chunk index ≡ parts_before pss chunk index
+before_with_free : (pss : List (List Extent)) (chunk index : ℕ) → chunk < length pss → parts_before (pss ++ [] ∷ []) chunk index ≡ parts_before pss chunk index
 before_with_free [] chunk index l = absurd (omega arith)
 before_with_free (ps ∷ pss) zero index l = refl
-before_with_free (ps ∷ pss) (suc chunk) index l = ap (λ (qs : List Part). ps ++ qs) (before_with_free pss chunk index (omega arith))
+before_with_free (ps ∷ pss) (suc chunk) index l = ap (λ (qs : List Extent). ps ++ qs) (before_with_free pss chunk index (omega arith))
 
-behind_with_free : (pss : List (List Part)) (chunk index : ℕ) → chunk < length pss → parts_behind (pss ++ [] ∷ []) chunk index ≡ parts_behind pss chunk index
+behind_with_free : (pss : List (List Extent)) (chunk index : ℕ) → chunk < length pss → parts_behind (pss ++ [] ∷ []) chunk index ≡ parts_behind pss chunk index
 behind_with_free [] chunk index l = absurd (omega arith)
-behind_with_free (ps ∷ pss) zero index l = ap (λ (qs : List Part). drop index ps ++ qs) (all_with_free pss)
+behind_with_free (ps ∷ pss) zero index l = ap (λ (qs : List Extent). drop index ps ++ qs) (all_with_free pss)
 behind_with_free (ps ∷ pss) (suc chunk) index l = behind_with_free pss chunk index (omega arith)
 
-pub at_with_free : (pss : List (List Part)) (chunk : ℕ) (d : List Part) → chunk < length pss → chunk_at (pss ++ [] ∷ []) chunk ≡ get_or pss chunk d
+pub at_with_free : (pss : List (List Extent)) (chunk : ℕ) (d : List Extent) → chunk < length pss → chunk_at (pss ++ [] ∷ []) chunk ≡ get_or pss chunk d
 at_with_free [] chunk d l = absurd (omega arith)
 at_with_free (ps ∷ pss) zero d l = refl
 at_with_free (ps ∷ pss) (suc chunk) d l = at_with_free pss chunk d (omega arith)
 
-pub divided : (pss old new : List (List Part)) (chunk next kept : ℕ) (d : List Part) → old ≡ pss ++ [] ∷ [] → next ≡ suc chunk → new ≡ insert (set pss chunk (take kept (get_or pss chunk d))) next (drop kept (get_or pss chunk d))
+pub divided : (pss old new : List (List Extent)) (chunk next kept : ℕ) (d : List Extent) → old ≡ pss ++ [] ∷ [] → next ≡ suc chunk → new ≡ insert (set pss chunk (take kept (get_or pss chunk d))) next (drop kept (get_or pss chunk d))
     → chunk < length pss → kept ≤ length (get_or pss chunk d) → IsDivided old chunk kept new
 divided pss old new chunk next kept d was step is l m =
     let is_halves : new ≡ halves pss chunk kept d = subst (λ i. new ≡ insert (set pss chunk (take kept (get_or pss chunk d))) i (drop kept (get_or pss chunk d))) step is in

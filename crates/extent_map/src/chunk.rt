@@ -6,7 +6,7 @@ ghost use Rattle.extent_map.specs.Parts.{LieInOrder};
 
 use crate::gaps::{first_gap, hole_before, larger, summary_of};
 use crate::holes::{end_before, start_behind};
-use crate::part::{Hole, Part, Summary};
+use crate::part::{Extent, Hole, Summary};
 use std::alloc::{AllocError, Global};
 use std::marker::Model;
 
@@ -16,17 +16,17 @@ pub const ROOM: usize = 1024;
 /// A chunk. Contracts see its parts.
 #[derive(Drop)]
 pub struct Chunk {
-    parts: Vec<Part>,
+    parts: Vec<Extent>,
     summary: Summary,
 }
 
 impl Model for Chunk {
     ghost use Rattle.std.specs.Prelude.{◌≤◌, List, length, vec_capacity};
-    ghost use Rattle.extent_map.specs.declared.part.Part.{Part};
+    ghost use Rattle.extent_map.specs.declared.part.Extent.{Extent};
     ghost use Rattle.extent_map.specs.Holes.{IsSummed};
     ghost use Rattle.extent_map.specs.Chunks.{chunk_room};
 
-    ghost Value = { List Part };
+    ghost Value = { List Extent };
 
     ghost view = { λ c. c.parts.items };
 
@@ -34,7 +34,7 @@ impl Model for Chunk {
 }
 
 /// Puts a part before the one at an index, with no memory taken.
-fn insert_within(parts: &mut Vec<Part>, index: usize, part: Part)
+fn insert_within(parts: &mut Vec<Extent>, index: usize, part: Extent)
     requires room { vec_len parts.old < vec_capacity parts.old }
     requires within { index ≤ length parts.old.items }
     ensures items { parts.new.items ≡ insert parts.old.items index part }
@@ -60,7 +60,7 @@ impl Chunk {
     }
 
     /// Its parts.
-    pub fn parts(&self) -> &[Part]
+    pub fn parts(&self) -> &[Extent]
         ensures { result.now ≡ self.now }
     {
         self.parts.as_slice()
@@ -102,7 +102,7 @@ impl Chunk {
     }
 
     /// Enters a part before the one at an index.
-    pub fn enter(&mut self, size: u64, index: usize, part: Part)
+    pub fn enter(&mut self, size: u64, index: usize, part: Extent)
         requires within { index ≤ length self.old }
         requires room { length self.old < chunk_room }
         requires ordered { LieInOrder 0 (insert self.old index part) size }
@@ -151,7 +151,7 @@ impl Chunk {
     }
 
     /// Enters parts behind its own.
-    pub fn append(&mut self, size: u64, parts: &[Part])
+    pub fn append(&mut self, size: u64, parts: &[Extent])
         requires room { length self.old + length parts.now ≤ chunk_room }
         requires ordered { LieInOrder 0 (self.old ++ parts.now) size }
         ensures { self.new ≡ self.old ++ parts.now }

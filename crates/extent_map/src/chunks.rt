@@ -7,7 +7,7 @@ ghost use Rattle.extent_map.specs.Spaces.{IsFree, NoneFree, NoneFreeBelow};
 
 use crate::chunk::{Chunk, ROOM};
 use crate::holes::{fits, hole_at, index_of};
-use crate::part::{Found, Hole, Part, Spot};
+use crate::part::{Extent, ExtentSpot, FoundHole, Hole};
 
 /// The first so many chunks.
 pub fn first_of(chunks: &[Chunk], used: usize) -> &[Chunk]
@@ -34,14 +34,14 @@ fn last_used(chunks: &[Chunk]) -> usize
 }
 
 /// The spot behind all parts.
-fn end_spot(chunks: &[Chunk]) -> Spot
+fn end_spot(chunks: &[Chunk]) -> ExtentSpot
     requires some { 0 < length chunks.now }
     ensures spot { IsSpot chunks.now result.chunk result.index }
     ensures before { parts_before chunks.now result.chunk result.index ≡ all_parts chunks.now }
     ensures behind { parts_behind chunks.now result.chunk result.index ≡ [] }
 {
     let chunk = last_used(chunks);
-    Spot {
+    ExtentSpot {
         chunk,
         index: chunks[chunk].len(),
     }
@@ -68,7 +68,7 @@ fn end_behind(chunk: &Chunk, place: u64) -> u64
 }
 
 /// The lowest hole in which a part of so many bytes fits.
-pub fn lowest_hole(chunks: &[Chunk], size: u64, bytes: u32) -> Option<Found>
+pub fn lowest_hole(chunks: &[Chunk], size: u64, bytes: u32) -> Option<FoundHole>
     requires ordered { LieInOrder 0 (all_parts chunks.now) size }
     requires chunks { 0 < length chunks.now }
     requires some { 1 ≤ bytes }
@@ -81,8 +81,8 @@ pub fn lowest_hole(chunks: &[Chunk], size: u64, bytes: u32) -> Option<Found>
     while chunk < chunks.len() {
         match hole_in(&chunks[chunk], size, place, bytes) {
             Some(hole) => {
-                return Some(Found {
-                    spot: Spot {
+                return Some(FoundHole {
+                    spot: ExtentSpot {
                         chunk,
                         index: hole.index,
                     },
@@ -96,7 +96,7 @@ pub fn lowest_hole(chunks: &[Chunk], size: u64, bytes: u32) -> Option<Found>
         }
     }
     if fits(place, bytes, size) {
-        return Some(Found {
+        return Some(FoundHole {
             spot: end_spot(chunks),
             place,
         });
@@ -192,7 +192,7 @@ fn chunk_of(chunks: &[Chunk], size: u64, place: u64) -> usize
 }
 
 /// The spot of a part that is free; `None` exactly where it is not free.
-pub fn free_spot(chunks: &[Chunk], size: u64, place: u64, bytes: u32) -> Option<Spot>
+pub fn free_spot(chunks: &[Chunk], size: u64, place: u64, bytes: u32) -> Option<ExtentSpot>
     requires ordered { LieInOrder 0 (all_parts chunks.now) size }
     requires chunks { 0 < length chunks.now }
     requires some { 1 ≤ bytes }
@@ -202,7 +202,7 @@ pub fn free_spot(chunks: &[Chunk], size: u64, place: u64, bytes: u32) -> Option<
     let chunk = chunk_of(chunks, size, place);
     if chunk < chunks.len() {
         return match hole_at(chunks[chunk].parts(), size, place, bytes) {
-            Some(index) => Some(Spot { chunk, index }),
+            Some(index) => Some(ExtentSpot { chunk, index }),
             None => None,
         };
     }
@@ -213,7 +213,7 @@ pub fn free_spot(chunks: &[Chunk], size: u64, place: u64, bytes: u32) -> Option<
 }
 
 /// The spot of a part.
-pub fn spot_of(chunks: &[Chunk], size: u64, part: Part) -> Spot
+pub fn spot_of(chunks: &[Chunk], size: u64, part: Extent) -> ExtentSpot
     requires ordered { LieInOrder 0 (all_parts chunks.now) size }
     requires known { Contains (all_parts chunks.now) part }
     ensures known { result.chunk < length chunks.now }
@@ -221,7 +221,7 @@ pub fn spot_of(chunks: &[Chunk], size: u64, part: Part) -> Spot
     ensures at { slice_index_or (chunk_at chunks.now result.chunk) result.index part ≡ part }
 {
     let chunk = chunk_of(chunks, size, part.place);
-    Spot {
+    ExtentSpot {
         chunk,
         index: index_of(chunks[chunk].parts(), part),
     }

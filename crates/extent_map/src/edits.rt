@@ -5,7 +5,7 @@ ghost use Rattle.extent_map.specs.Parts.{LieInOrder};
 
 use crate::chunk::{Chunk, ROOM};
 use crate::chunks::loose_pair;
-use crate::part::{Part, Spot};
+use crate::part::{Extent, ExtentSpot};
 use std::alloc::{AllocError, Global};
 
 /// Makes chunks with no part behind the others, until there are so many. `AllocError` where memory runs out.
@@ -124,7 +124,7 @@ fn divide(chunks: &mut Vec<Chunk>, size: u64, used: usize, chunk: usize, kept: u
 }
 
 /// Divides a full chunk so that there is room at a spot of it, and tells where that spot is then.
-fn make_room(chunks: &mut Vec<Chunk>, size: u64, used: usize, spot: Spot) -> Spot
+fn make_room(chunks: &mut Vec<Chunk>, size: u64, used: usize, spot: ExtentSpot) -> ExtentSpot
     requires ordered { LieInOrder 0 (all_parts chunks.old.items) size }
     requires first { IsUsed chunks.old.items used }
     requires free { used < length chunks.old.items }
@@ -144,14 +144,14 @@ fn make_room(chunks: &mut Vec<Chunk>, size: u64, used: usize, spot: Spot) -> Spo
     if spot.index <= ROOM / 2 {
         return spot;
     }
-    Spot {
+    ExtentSpot {
         chunk: spot.chunk + 1,
         index: spot.index - kept,
     }
 }
 
 /// Enters a part at a spot of a chunk that has room.
-fn put(chunks: &mut Vec<Chunk>, size: u64, spot: Spot, part: Part)
+fn put(chunks: &mut Vec<Chunk>, size: u64, spot: ExtentSpot, part: Extent)
     requires fits { FitsAt chunks.old.items size spot.chunk spot.index part }
     requires some { 1 ≤ part.length }
     requires room { length (chunk_at chunks.old.items spot.chunk) < chunk_room }
@@ -163,7 +163,13 @@ fn put(chunks: &mut Vec<Chunk>, size: u64, spot: Spot, part: Part)
 }
 
 /// Enters a part at a spot of the first so many chunks, which are all that may have parts, and tells how many these are then.
-pub fn enter(chunks: &mut Vec<Chunk>, size: u64, used: usize, spot: Spot, part: Part) -> usize
+pub fn enter(
+    chunks: &mut Vec<Chunk>,
+    size: u64,
+    used: usize,
+    spot: ExtentSpot,
+    part: Extent,
+) -> usize
     requires fits { FitsAt chunks.old.items size spot.chunk spot.index part }
     requires some { 1 ≤ part.length }
     requires first { IsUsed chunks.old.items used }
@@ -183,7 +189,7 @@ pub fn enter(chunks: &mut Vec<Chunk>, size: u64, used: usize, spot: Spot, part: 
 }
 
 /// Takes out the part at a spot.
-pub fn leave(chunks: &mut Vec<Chunk>, size: u64, spot: Spot)
+pub fn leave(chunks: &mut Vec<Chunk>, size: u64, spot: ExtentSpot)
     requires ordered { LieInOrder 0 (all_parts chunks.old.items) size }
     requires known { spot.chunk < length chunks.old.items }
     requires within { spot.index < length (chunk_at chunks.old.items spot.chunk) }

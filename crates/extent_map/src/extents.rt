@@ -5,12 +5,12 @@ ghost use Rattle.extent_map.specs.Parts.{part_at};
 use crate::chunk::{Chunk, ROOM};
 use crate::chunks::{first_of, free_spot, lowest_hole, spot_of};
 use crate::edits::{enter, grow, leave, prepare, refresh};
-use crate::part::Part;
+use crate::part::Extent;
 use std::alloc::{AllocError, Global};
 use std::marker::Model;
 
 /// How many parts there will be room for in all, where so many are to be taken beside those that are.
-fn needed(taken: usize, parts: u32) -> Result<usize, AllocError>
+fn room_for(taken: usize, parts: u32) -> Result<usize, AllocError>
     ensures { IfOk result (λ room. (room ≡ taken + parts) × (room < 2 ^ 62)) }
 {
     let parts = parts as usize;
@@ -88,7 +88,7 @@ impl Extents {
         if parts as usize <= self.room - self.taken {
             return Ok(());
         }
-        let room = needed(self.taken, parts)?;
+        let room = room_for(self.taken, parts)?;
         grow(&mut self.chunks, alloc, 2 * (room / ROOM + 1))?;
         self.room = room;
         Ok(())
@@ -115,7 +115,7 @@ impl Extents {
             self.size,
             self.used,
             found.spot,
-            Part { place, length },
+            Extent { place, length },
         );
         self.taken += 1;
         Some(place)
@@ -144,7 +144,7 @@ impl Extents {
         ensures sound { IsSound self.new }
     {
         let first = first_of(self.chunks.as_slice(), self.used);
-        let spot = spot_of(first, self.size, Part { place, length });
+        let spot = spot_of(first, self.size, Extent { place, length });
         leave(&mut self.chunks, self.size, spot);
         self.taken -= 1;
     }
@@ -162,7 +162,7 @@ impl Extents {
         let first = first_of(self.chunks.as_slice(), self.used);
         match free_spot(first, self.size, place, length) {
             Some(spot) => {
-                let part = Part { place, length };
+                let part = Extent { place, length };
                 self.used = enter(&mut self.chunks, self.size, self.used, spot, part);
                 self.taken += 1;
                 true

@@ -4,7 +4,7 @@ ghost use Rattle.extent_map.specs.Holes.{first_start, last_end, FitsBeforeNone, 
 ghost use Rattle.extent_map.specs.Parts.{LieInOrder};
 
 use crate::holes::{end_before, fits, start_behind};
-use crate::part::{Hole, Part, Summary};
+use crate::part::{Extent, Hole, Summary};
 
 /// The larger of two numbers.
 pub fn larger(one: u64, other: u64) -> u64
@@ -15,7 +15,7 @@ pub fn larger(one: u64, other: u64) -> u64
 }
 
 /// How many bytes the hole between the part before an index and the one at it has; 0 where there are no two such parts.
-pub fn hole_before(parts: &[Part], size: u64, index: usize) -> u64
+pub fn hole_before(parts: &[Extent], size: u64, index: usize) -> u64
     requires ordered { LieInOrder 0 parts.now size }
     requires within { index ≤ length parts.now }
     ensures { 1 ≤ index → first_start (drop index parts.now) 0 ≤ last_end 0 (take index parts.now) + result }
@@ -27,7 +27,7 @@ pub fn hole_before(parts: &[Part], size: u64, index: usize) -> u64
 }
 
 /// The first hole between two of the parts in which so many bytes fit.
-pub fn first_gap(parts: &[Part], size: u64, bytes: u32) -> Option<Hole>
+pub fn first_gap(parts: &[Extent], size: u64, bytes: u32) -> Option<Hole>
     requires ordered { LieInOrder 0 parts.now size }
     requires some { 1 ≤ bytes }
     ensures gap { IfSome result (λ hole. IsGap parts.now hole.index hole.place bytes) }
@@ -47,7 +47,7 @@ pub fn first_gap(parts: &[Part], size: u64, bytes: u32) -> Option<Hole>
 }
 
 /// The summary of the parts.
-pub fn summary_of(parts: &[Part], size: u64) -> Summary
+pub fn summary_of(parts: &[Extent], size: u64) -> Summary
     requires ordered { LieInOrder 0 parts.now size }
     ensures { IsSummed parts.now result.start result.end result.widest }
 {

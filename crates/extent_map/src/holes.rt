@@ -4,7 +4,7 @@ ghost use Rattle.extent_map.specs.Holes.{first_start, last_end, IsHole};
 ghost use Rattle.extent_map.specs.Parts.{part_at, LieInOrder};
 ghost use Rattle.extent_map.specs.Spaces.{IsFree};
 
-use crate::part::Part;
+use crate::part::Extent;
 
 /// Whether so many bytes from a place on end at or before another place.
 pub fn fits(place: u64, bytes: u32, high: u64) -> bool
@@ -14,7 +14,7 @@ pub fn fits(place: u64, bytes: u32, high: u64) -> bool
 }
 
 /// How many of the parts start before a place.
-pub fn starts_before(parts: &[Part], place: u64) -> usize
+pub fn starts_before(parts: &[Extent], place: u64) -> usize
     requires rising { AllPairs (λ p q. p.place < q.place) parts.now }
     ensures within { result ≤ length parts.now }
     ensures before { All (λ q. q.place < place) (take result parts.now) }
@@ -24,7 +24,7 @@ pub fn starts_before(parts: &[Part], place: u64) -> usize
 }
 
 /// Where the last of so many parts ends; 0 where there are none.
-pub fn end_before(parts: &[Part], size: u64, index: usize) -> u64
+pub fn end_before(parts: &[Extent], size: u64, index: usize) -> u64
     requires ordered { LieInOrder 0 parts.now size }
     requires within { index ≤ length parts.now }
     ensures { result ≡ last_end 0 (take index parts.now) }
@@ -37,7 +37,7 @@ pub fn end_before(parts: &[Part], size: u64, index: usize) -> u64
 }
 
 /// Where the first part after so many starts; the size where there is none.
-pub fn start_behind(parts: &[Part], size: u64, index: usize) -> u64
+pub fn start_behind(parts: &[Extent], size: u64, index: usize) -> u64
     ensures { result ≡ first_start (drop index parts.now) size }
 {
     if index < parts.len() {
@@ -47,7 +47,7 @@ pub fn start_behind(parts: &[Part], size: u64, index: usize) -> u64
 }
 
 /// How many of the parts lie before a part that is free; `None` exactly where it is not free.
-pub fn hole_at(parts: &[Part], size: u64, place: u64, bytes: u32) -> Option<usize>
+pub fn hole_at(parts: &[Extent], size: u64, place: u64, bytes: u32) -> Option<usize>
     requires ordered { LieInOrder 0 parts.now size }
     requires some { 1 ≤ bytes }
     ensures hole { IfSome result (λ index. IsHole parts.now size index (part_at place bytes)) }
@@ -66,7 +66,7 @@ pub fn hole_at(parts: &[Part], size: u64, place: u64, bytes: u32) -> Option<usiz
 }
 
 /// The index of a part.
-pub fn index_of(parts: &[Part], part: Part) -> usize
+pub fn index_of(parts: &[Extent], part: Extent) -> usize
     requires rising { AllPairs (λ p q. p.place < q.place) parts.now }
     requires known { Contains parts.now part }
     ensures within { result < length parts.now }

@@ -17,4 +17,4 @@ mod holes;
 mod part;
 
 pub use extents::Extents;
-pub use part::{Found, Hole, Part, Spot, Summary};
+pub use part::{Extent, ExtentSpot, FoundHole, Hole, Summary};

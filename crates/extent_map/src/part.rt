@@ -2,7 +2,7 @@
 
 /// A part of a space: so many bytes from a place on.
 #[derive(Clone, Copy, PartialEq, Eq)]
-pub struct Part {
+pub struct Extent {
     /// The place of its first byte, counted from 0.
     pub place: u64,
     /// How many bytes it has.
@@ -20,7 +20,7 @@ pub struct Hole {
 
 /// Where a part stands, or would stand, among parts in chunks.
 #[derive(Clone, Copy)]
-pub struct Spot {
+pub struct ExtentSpot {
     /// The chunk's number.
     pub chunk: usize,
     /// How many parts of the chunk lie before it.
@@ -29,9 +29,9 @@ pub struct Spot {
 
 /// A hole between parts in chunks.
 #[derive(Clone, Copy)]
-pub struct Found {
+pub struct FoundHole {
     /// Where a part in it would stand.
-    pub spot: Spot,
+    pub spot: ExtentSpot,
     /// Where it starts.
     pub place: u64,
 }

@@ -4,11 +4,11 @@ use Rattle.std.proofs.lemmas.Option.{slice_get-get_or, slice_get_within}
 use Rattle.std.specs.Prelude.{slice_get}
 use Rattle.job_board.specs.Boards.{BoardMayReply, IsStopped, Looks, Stops, watch_of}
 use Rattle.job_board.specs.Calls.{BoardHolding, MakesOne}
-use Rattle.job_board.specs.declared.shown.Command.{Command}
-use Rattle.job_board.specs.declared.shown.Command.TheVariants as command
-use Rattle.job_board.specs.declared.shown.Reply.{Reply}
-use Rattle.job_board.specs.declared.shown.Reply.TheVariants as reply
-use Rattle.job_board.specs.declared.shown.Shown.{Shown}
+use Rattle.job_board.specs.declared.shown.BoardCommand.{BoardCommand}
+use Rattle.job_board.specs.declared.shown.BoardCommand.TheVariants as command
+use Rattle.job_board.specs.declared.shown.BoardReply.{BoardReply}
+use Rattle.job_board.specs.declared.shown.BoardReply.TheVariants as reply
+use Rattle.job_board.specs.declared.shown.BoardShown.{BoardShown}
 use Rattle.job_board.specs.declared.status.JobStatus.{JobStatus}
 use Rattle.job_board.specs.Hands.{SheetHolding}
 use Rattle.truncation_list.specs.declared.book.FrontedBook.{FrontedBook}
@@ -21,14 +21,14 @@ same_look x y e = cc
 
 -- WHAT THE REPLIES SAY
 
-stopped_by : (b a : Shown) (n : ℕ) (does : Command) (r : Reply) → does ≡ command.Stop n → r ≡ reply.Stop true → BoardMayReply b does r a → IsStopped b n a
+stopped_by : (b a : BoardShown) (n : ℕ) (does : BoardCommand) (r : BoardReply) → does ≡ command.Stop n → r ≡ reply.Stop true → BoardMayReply b does r a → IsStopped b n a
 stopped_by b a n does r is so may =
-    let h : BoardMayReply b (command.Stop n) (reply.Stop true) a = subst (λ (z : Reply). BoardMayReply b (command.Stop n) z a) so (subst (λ (d : Command). BoardMayReply b d r a) is may) in
+    let h : BoardMayReply b (command.Stop n) (reply.Stop true) a = subst (λ (z : BoardReply). BoardMayReply b (command.Stop n) z a) so (subst (λ (d : BoardCommand). BoardMayReply b d r a) is may) in
     subst (λ (x : Bool). Stops b n x a) (same_stop true h.0 h.1) h.2
 
-unseen_by : (b a : Shown) (n : ℕ) (does : Command) (r : Reply) → does ≡ command.Look n → r ≡ reply.Look None → BoardMayReply b does r a → watch_of b n ≡ None
+unseen_by : (b a : BoardShown) (n : ℕ) (does : BoardCommand) (r : BoardReply) → does ≡ command.Look n → r ≡ reply.Look None → BoardMayReply b does r a → watch_of b n ≡ None
 unseen_by b a n does r is so may =
-    let h : BoardMayReply b (command.Look n) (reply.Look None) a = subst (λ (z : Reply). BoardMayReply b (command.Look n) z a) so (subst (λ (d : Command). BoardMayReply b d r a) is may) in
+    let h : BoardMayReply b (command.Look n) (reply.Look None) a = subst (λ (z : BoardReply). BoardMayReply b (command.Look n) z a) so (subst (λ (d : BoardCommand). BoardMayReply b d r a) is may) in
     let row : Looks b n None a = subst (λ (x : Option JobStatus). Looks b n x a) (same_look None h.0 h.1) h.2 in
     row.0
 
@@ -47,7 +47,7 @@ pub found_again : (before between after : BoardHolding) (n : ℕ) → MakesOne b
 found_again before between after n stop look =
     let s = stopped_by stop.turn.note.before stop.turn.note.after n stop.turn.note.command stop.turn.note.reply stop.command_is stop.reply_is stop.may.reply in
     let none = unseen_by look.turn.note.before look.turn.note.after n look.turn.note.command look.turn.note.reply look.command_is look.reply_is look.may.reply in
-    let as_many : length stop.turn.note.after.watches ≡ length stop.turn.note.before.watches = ap (λ (b : Shown). length b.watches) s.is ∙ length-set stop.turn.note.before.watches (n - 1) s.left in
+    let as_many : length stop.turn.note.after.watches ≡ length stop.turn.note.before.watches = ap (λ (b : BoardShown). length b.watches) s.is ∙ length-set stop.turn.note.before.watches (n - 1) s.left in
     let seen : between.book.front ≡ length stop.turn.note.after.watches = ap (λ (p : BoardHolding). p.book.front) stop.is in
     let found : look.turn.found.front ≡ length look.turn.note.before.watches = ap (λ (f : FrontedBook). f.front) look.may.found in
     let no_fewer = look.may.answers.front in

@@ -12,8 +12,8 @@ use Rattle.cache_core.specs.declared.outcome.Tile.{Tile}
 use Rattle.catalog.specs.declared.catalogue.Catalogue.{Catalogue}
 use Rattle.base.specs.Causes.{Rose}
 use Rattle.http_wire.specs.declared.message.Message.{Message}
-use Rattle.job_board.specs.declared.shown.Command.TheVariants as board_command
-use Rattle.job_board.specs.declared.shown.Reply.TheVariants as board_reply
+use Rattle.job_board.specs.declared.shown.BoardCommand.TheVariants as board_command
+use Rattle.job_board.specs.declared.shown.BoardReply.TheVariants as board_reply
 use Rattle.job_board.specs.Calls.{BoardHolding, MakesOne}
 use Rattle.job_requests.specs.declared.request.JobRequest.{JobRequest}
 use Rattle.job_requests.specs.declared.request.JobRequest.TheVariants as job_request

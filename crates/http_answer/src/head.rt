@@ -48,7 +48,11 @@ fn front_of(bytes: &[u8]) -> &[u8]
 }
 
 /// What is taken of the head that stands at the front of the bytes.
-fn framed(bytes: &[u8], headers: &[HeaderSpan], spans: ResponseSpans) -> Result<Head, AnswerFault>
+fn head_of_response(
+    bytes: &[u8],
+    headers: &[HeaderSpan],
+    spans: ResponseSpans,
+) -> Result<Head, AnswerFault>
     requires is { IsResponseOf (front bytes.now) headers.now spans }
     requires within { IsResponseWithin (front bytes.now) headers.now spans }
     requires room { length headers.now ≡ 64 }
@@ -74,7 +78,7 @@ pub fn head_of(bytes: &[u8]) -> Result<Option<Head>, AnswerFault>
 {
     let mut headers = [EMPTY_HEADER_SPAN; 64];
     match look(front_of(bytes), &mut headers) {
-        HeadLook::Whole(spans) => match framed(bytes, &headers, spans) {
+        HeadLook::Whole(spans) => match head_of_response(bytes, &headers, spans) {
             Ok(head) => Ok(Some(head)),
             Err(fault) => Err(fault),
         },

@@ -34,7 +34,7 @@ pub fn part(mut bytes: Vec<u8>, start: usize, size: usize) -> Vec<u8>
 }
 
 /// The body of so many bytes from a place on, or the wait for it.
-fn counted(
+fn body_of_count(
     bytes: Vec<u8>,
     limit: usize,
     start: usize,
@@ -73,12 +73,12 @@ fn chunked(mut bytes: Vec<u8>, limit: usize, from: Cursor) -> Result<AnswerSoFar
 }
 
 /// What comes of the bytes behind a head.
-fn framed(bytes: Vec<u8>, limit: usize, head: Head) -> Result<AnswerSoFar, AnswerFault>
+fn answer_of_frame(bytes: Vec<u8>, limit: usize, head: Head) -> Result<AnswerSoFar, AnswerFault>
     requires { IsHead bytes.items head }
     ensures { Goes limit bytes.items result }
 {
     match head.framing {
-        Framing::Length(size) => counted(bytes, limit, head.start, size),
+        Framing::Length(size) => body_of_count(bytes, limit, head.start, size),
         Framing::Chunked => {
             let from = Cursor {
                 to: 0,
@@ -101,7 +101,7 @@ pub fn go_on(bytes: Vec<u8>, limit: usize, stage: ReadStage) -> Result<AnswerSoF
 {
     match stage {
         ReadStage::Head => match head_of(bytes.as_slice()) {
-            Ok(Some(head)) => framed(bytes, limit, head),
+            Ok(Some(head)) => answer_of_frame(bytes, limit, head),
             Ok(None) => Ok(AnswerSoFar::More(HttpAnswer {
                 bytes,
                 limit,
@@ -109,7 +109,7 @@ pub fn go_on(bytes: Vec<u8>, limit: usize, stage: ReadStage) -> Result<AnswerSoF
             })),
             Err(fault) => Err(fault),
         },
-        ReadStage::Counted(start, size) => counted(bytes, limit, start, size),
+        ReadStage::Counted(start, size) => body_of_count(bytes, limit, start, size),
         ReadStage::ToEnd(start) => Ok(AnswerSoFar::More(HttpAnswer {
             bytes,
             limit,

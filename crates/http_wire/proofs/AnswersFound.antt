@@ -10,8 +10,8 @@ use Rattle.http_wire.specs.declared.message.Stop.{Stop}
 use Rattle.http_wire.specs.declared.message.Stop.TheVariants.{End, Truncated, Bad}
 use Rattle.http_wire.specs.declared.message.Next.{Next}
 use Rattle.http_wire.specs.declared.message.Message.{Message}
-use Rattle.http_wire.specs.declared.look.Found.{Found}
-use Rattle.http_wire.specs.declared.look.Found.TheVariants.{Stopped}
+use Rattle.http_wire.specs.declared.look.LookOutcome.{LookOutcome}
+use Rattle.http_wire.specs.declared.look.LookOutcome.TheVariants.{Stopped}
 use Rattle.http_wire.specs.declared.outline.Outline.{Outline}
 use Rattle.http_wire.specs.declared.outline.Outlined.{Outlined}
 use Rattle.http_wire.specs.declared.outline.Outlined.TheVariants.{Good, Refused}
@@ -22,7 +22,7 @@ answer_of_stop before after End h = h
 answer_of_stop before after Truncated h = h
 answer_of_stop before after (Bad status) h = h
 
-pub stop_answers : (before now after : Option (List ℕ)) (held : List ℕ) (headers : List HeaderSpan) (found : Found) (stop : Stop) (answer : Next) → Keeps before now → SettlesStream held headers now found → found ≡ Stopped stop → answer ≡ next_at stop
+pub stop_answers : (before now after : Option (List ℕ)) (held : List ℕ) (headers : List HeaderSpan) (found : LookOutcome) (stop : Stop) (answer : Next) → Keeps before now → SettlesStream held headers now found → found ≡ Stopped stop → answer ≡ next_at stop
     → AnswersNext before after answer
 stop_answers before now after held headers found stop answer k settles is e =
     let here : SettlesStream held headers now (Stopped stop) = subst (SettlesStream held headers now) is settles in

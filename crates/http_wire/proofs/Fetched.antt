@@ -10,8 +10,8 @@ use Rattle.http_wire.specs.Messages.{HoldsMessage}
 use Rattle.http_wire.specs.Outlines.{Outlines, IsOutline}
 use Rattle.http_wire.specs.Side.{Side}
 use Rattle.http_wire.specs.Takes.{Takes, BringsUpTo}
-use Rattle.http_wire.specs.declared.look.Found.{Found}
-use Rattle.http_wire.specs.declared.look.Found.TheVariants.{Stopped}
+use Rattle.http_wire.specs.declared.look.LookOutcome.{LookOutcome}
+use Rattle.http_wire.specs.declared.look.LookOutcome.TheVariants.{Stopped}
 use Rattle.http_wire.specs.declared.message.Message.{Message}
 use Rattle.http_wire.specs.declared.message.Next.{Next}
 use Rattle.http_wire.specs.declared.message.Next.TheVariants as nexts
@@ -81,7 +81,7 @@ stop_fetched stop answer e takes answers leaves =
     }
 
 -- the stream stops before a head
-pub found_stop : {T : Type 0} {held new : List ℕ} {left after : Option (List ℕ)} {faults now : ℕ} {beside still : Side} {value : T} (headers : List HeaderSpan) (found : Found) (stop : Stop) (answer : Next) → Takes held new left after faults now beside still (Ok value)
+pub found_stop : {T : Type 0} {held new : List ℕ} {left after : Option (List ℕ)} {faults now : ℕ} {beside still : Side} {value : T} (headers : List HeaderSpan) (found : LookOutcome) (stop : Stop) (answer : Next) → Takes held new left after faults now beside still (Ok value)
     → SettlesStream new headers (prepend_known new after) found → found ≡ Stopped stop → answer ≡ next_at stop → Fetches held new left after faults now beside still (Ok answer)
 found_stop headers found stop answer takes settles is e =
     stop_fetched stop answer e takes (stop_answers _ _ _ _ headers found stop answer takes.stream settles is e) (stop_leaves _ _ _ headers found stop answer takes.stream settles is e)

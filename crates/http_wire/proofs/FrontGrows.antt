@@ -7,8 +7,8 @@ use Rattle.std.specs.Io.KnownBytes.{IsAtEnd, prepend_known}
 use Rattle.http_wire.specs.declared.message.Stop.{Stop}
 use Rattle.http_wire.specs.Messages.{front, IsUnfinished, IsBad, StopsAs}
 use Rattle.http_wire.specs.Looks.{Settles, SettlesStream}
-use Rattle.http_wire.specs.declared.look.Found.{Found}
-use Rattle.http_wire.specs.declared.look.Found.TheVariants.{Head, Stopped}
+use Rattle.http_wire.specs.declared.look.LookOutcome.{LookOutcome}
+use Rattle.http_wire.specs.declared.look.LookOutcome.TheVariants.{Head, Stopped}
 use Rattle.httparse.specs.declared.spans.HeaderSpan.{HeaderSpan}
 
 -- the front grows with the bytes
@@ -71,9 +71,9 @@ settled_stream None held e each = tt
 settled_stream (Some rest) held e each = each rest
 
 -- what the bytes so far settle is settled for the stream
-pub settled : (first held : List ℕ) (headers : List HeaderSpan) (left : Option (List ℕ)) (found : Found) → first ≡ held → Settles first headers found → SettlesStream held headers (prepend_known held left) found
+pub settled : (first held : List ℕ) (headers : List HeaderSpan) (left : Option (List ℕ)) (found : LookOutcome) → first ≡ held → Settles first headers found → SettlesStream held headers (prepend_known held left) found
 settled first held headers left found e is = settled_here held headers left found (subst (λ (l : List ℕ). Settles l headers found) e is)
   where
-    settled_here : (bytes : List ℕ) (spans : List HeaderSpan) (rest : Option (List ℕ)) (f : Found) → Settles bytes spans f → SettlesStream bytes spans (prepend_known bytes rest) f
+    settled_here : (bytes : List ℕ) (spans : List HeaderSpan) (rest : Option (List ℕ)) (f : LookOutcome) → Settles bytes spans f → SettlesStream bytes spans (prepend_known bytes rest) f
     settled_here bytes spans rest (Head s) here = here
     settled_here bytes spans rest (Stopped stop) here = settled_stream rest bytes stop here

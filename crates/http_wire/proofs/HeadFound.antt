@@ -7,7 +7,7 @@ use Rattle.httparse.specs.declared.spans.HeaderSpan.{HeaderSpan}
 use Rattle.http_wire.specs.Messages.{StopsAs}
 use Rattle.http_wire.specs.Looks.{HadNoHead, MayHaveHead, Settles}
 use Rattle.http_wire.specs.Takes.{BringsLine, Finds}
-use Rattle.http_wire.specs.declared.look.Found.{Found}
+use Rattle.http_wire.specs.declared.look.LookOutcome.{LookOutcome}
 use Rattle.http_wire.specs.declared.message.Stop.{Stop}
 use Rattle.http_wire.specs.declared.message.WireFault.{WireFault}
 use Rattle.http_wire.proofs.FrontGrows.{ended_at_end, settled}
@@ -24,13 +24,13 @@ found_at_end held new slice after more stop unsettled went brings same stops =
     (ended_at_end after new slice stop ended.0 same stops, none_now held new ended.1 (none_yet held unsettled))
 
 -- the bytes settle what comes
-pub found_late : (held new slice : List ℕ) (after : Option (List ℕ)) (headers : List HeaderSpan) (more : Bool) (found : Found) → MayHaveHead held → more ≡ true → BringsLine held new after (Ok more) → slice ≡ new → Settles slice headers found → Finds new after headers (Ok found)
+pub found_late : (held new slice : List ℕ) (after : Option (List ℕ)) (headers : List HeaderSpan) (more : Bool) (found : LookOutcome) → MayHaveHead held → more ≡ true → BringsLine held new after (Ok more) → slice ≡ new → Settles slice headers found → Finds new after headers (Ok found)
 found_late held new slice after headers more found unsettled went brings same settles =
     let line : BringsLine held new after (Ok true) = subst (λ (b : Bool). BringsLine held new after (Ok b)) went brings in
     (settled slice new headers after found same settles, line.1 (none_yet held unsettled))
 
 -- a take fails
-pub none_found : (held new : List ℕ) (after : Option (List ℕ)) (headers : List HeaderSpan) (told : WireFault) (result : Result Found WireFault) → MayHaveHead held → (HasNoRequest held → HasNoRequest new) → result ≡ Err told → Finds new after headers result
+pub none_found : (held new : List ℕ) (after : Option (List ℕ)) (headers : List HeaderSpan) (told : WireFault) (result : Result LookOutcome WireFault) → MayHaveHead held → (HasNoRequest held → HasNoRequest new) → result ≡ Err told → Finds new after headers result
 none_found held new after headers told result unsettled waits is = rw is (waits (none_yet held unsettled))
 
 -- more bytes than those that were held

@@ -13,8 +13,8 @@ use Rattle.http_wire.specs.declared.message.Stop.TheVariants.{End, Truncated, Ba
 use Rattle.http_wire.specs.declared.message.Next.{Next}
 use Rattle.http_wire.specs.declared.message.WireFault.{WireFault}
 use Rattle.http_wire.specs.declared.message.WireFault.TheVariants.{ReadFault, OutOfMemory}
-use Rattle.http_wire.specs.declared.look.Found.{Found}
-use Rattle.http_wire.specs.declared.look.Found.TheVariants.{Stopped}
+use Rattle.http_wire.specs.declared.look.LookOutcome.{LookOutcome}
+use Rattle.http_wire.specs.declared.look.LookOutcome.TheVariants.{Stopped}
 use Rattle.http_wire.specs.declared.outline.Outline.{Outline}
 use Rattle.http_wire.specs.declared.outline.Outlined.{Outlined}
 use Rattle.http_wire.specs.declared.outline.Outlined.TheVariants.{Refused}
@@ -40,7 +40,7 @@ leaves_at before after End h = h
 leaves_at before after Truncated h = h
 leaves_at before after (Bad status) h = h
 
-pub stop_leaves : (before now : Option (List ℕ)) (held : List ℕ) (headers : List HeaderSpan) (found : Found) (stop : Stop) (answer : Next) → Keeps before now → SettlesStream held headers now found → found ≡ Stopped stop → answer ≡ next_at stop
+pub stop_leaves : (before now : Option (List ℕ)) (held : List ℕ) (headers : List HeaderSpan) (found : LookOutcome) (stop : Stop) (answer : Next) → Keeps before now → SettlesStream held headers now found → found ≡ Stopped stop → answer ≡ next_at stop
     → LeavesNext before now answer
 stop_leaves before now held headers found stop answer k settles is e =
     let here : SettlesStream held headers now (Stopped stop) = subst (SettlesStream held headers now) is settles in

@@ -6,8 +6,8 @@ use Rattle.httparse.specs.declared.spans.HeaderSpan.{HeaderSpan}
 use Rattle.http_wire.specs.Messages.{front, BeginsWith, IsUnfinished, StopsAs}
 use Rattle.http_wire.specs.declared.look.Looked.{Looked}
 use Rattle.http_wire.specs.declared.look.Looked.TheVariants.{Whole, Unfinished, Hopeless, TooMany}
-use Rattle.http_wire.specs.declared.look.Found.{Found}
-use Rattle.http_wire.specs.declared.look.Found.TheVariants.{Head, Stopped}
+use Rattle.http_wire.specs.declared.look.LookOutcome.{LookOutcome}
+use Rattle.http_wire.specs.declared.look.LookOutcome.TheVariants.{Head, Stopped}
 
 -- what a look says of the bytes, with room for so many fields
 abbrev pub LooksAs : List ℕ → ℕ → List HeaderSpan → Looked → Type 0
@@ -32,15 +32,15 @@ pub record MayHaveHead (held : List ℕ) : Type 0 where
   pub unfinished : IsUnfinished held
 
 -- what the bytes so far settle, whatever follows
-abbrev pub Settles : List ℕ → List HeaderSpan → Found → Type 0
+abbrev pub Settles : List ℕ → List HeaderSpan → LookOutcome → Type 0
 Settles held headers (Head spans) = IsRequestOf (front held) headers spans × IsRequestWithin (front held) headers spans
 Settles held headers (Stopped stop) = (more : List ℕ) → StopsAs (held ++ more) stop
 
-abbrev pub Steps : List ℕ → List HeaderSpan → Option Found → Type 0
+abbrev pub Steps : List ℕ → List HeaderSpan → Option LookOutcome → Type 0
 Steps held headers None = MayHaveHead held
 Steps held headers (Some found) = Settles held headers found
 
 -- what is settled for a stream, where it is modelled
-abbrev pub SettlesStream : List ℕ → List HeaderSpan → Option (List ℕ) → Found → Type 0
+abbrev pub SettlesStream : List ℕ → List HeaderSpan → Option (List ℕ) → LookOutcome → Type 0
 SettlesStream held headers stream (Head spans) = IsRequestOf (front held) headers spans × IsRequestWithin (front held) headers spans
 SettlesStream held headers stream (Stopped stop) = IfSome stream (λ bytes. StopsAs bytes stop)

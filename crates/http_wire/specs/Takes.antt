@@ -8,7 +8,7 @@ use Rattle.http_wire.specs.Lines.{Extends}
 use Rattle.http_wire.specs.Looks.{HadNoHead, SettlesStream}
 use Rattle.http_wire.specs.ReadCause.{HasReadCause}
 use Rattle.http_wire.specs.Side.{Side}
-use Rattle.http_wire.specs.declared.look.Found.{Found}
+use Rattle.http_wire.specs.declared.look.LookOutcome.{LookOutcome}
 use Rattle.http_wire.specs.declared.message.WireFault.{WireFault}
 
 -- No byte is lost, but where memory ran out; a read fault has its cause in the source; the other side of a link stays.
@@ -31,12 +31,12 @@ BringsLine held new after (Ok false) = IsAtEnd after × (new ≡ held)
 BringsLine held new after (Err fault) = HasNoRequest held → HasNoRequest new
 
 -- what is found is settled for the stream, and found with the last bytes that were taken; up to a fault no head came
-abbrev pub Finds : List ℕ → Option (List ℕ) → List HeaderSpan → Result Found WireFault → Type 0
+abbrev pub Finds : List ℕ → Option (List ℕ) → List HeaderSpan → Result LookOutcome WireFault → Type 0
 Finds new after headers (Ok found) = SettlesStream new headers (prepend_known new after) found × HadNoHead new
 Finds new after headers (Err fault) = HasNoRequest new
 
 -- the same, where the head may have been held before
-abbrev pub FindsHead : List ℕ → List ℕ → Option (List ℕ) → List HeaderSpan → Result Found WireFault → Type 0
+abbrev pub FindsHead : List ℕ → List ℕ → Option (List ℕ) → List HeaderSpan → Result LookOutcome WireFault → Type 0
 FindsHead held new after headers (Ok found) = SettlesStream new headers (prepend_known new after) found × ((new ≡ held) ⊎ HadNoHead new)
 FindsHead held new after headers (Err fault) = HasNoRequest new
 

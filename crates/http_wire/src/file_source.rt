@@ -8,7 +8,7 @@ use std::rt::Files;
 
 /// How the file was found.
 #[derive(Drop)]
-enum Found {
+enum LookOutcome {
     Opened(File),
     Absent,
     Shut,
@@ -17,7 +17,7 @@ enum Found {
 /// The bytes of a file. Its content isn't modelled.
 #[derive(Drop)]
 pub struct FileSource {
-    found: Found,
+    found: LookOutcome,
     faults: u64,
 }
 
@@ -27,12 +27,12 @@ impl FileSource {
         ensures { ⟦<FileSource as ByteSource>⟧.faults result ≡ 0 }
     {
         let found = match File::open(rt, path) {
-            Ok(file) => Found::Opened(file),
+            Ok(file) => LookOutcome::Opened(file),
             Err(error) => {
                 if error.kind() == ErrorKind::NotFound {
-                    Found::Absent
+                    LookOutcome::Absent
                 } else {
-                    Found::Shut
+                    LookOutcome::Shut
                 }
             }
         };
@@ -47,9 +47,9 @@ impl ByteSource for FileSource {
 
     fn take(&mut self, into: &mut [u8]) -> Result<usize, Failed> {
         let answer = match &mut self.found {
-            Found::Opened(file) => file.read(into).map_err(|_| Failed),
-            Found::Absent => Ok(0),
-            Found::Shut => Err(Failed),
+            LookOutcome::Opened(file) => file.read(into).map_err(|_| Failed),
+            LookOutcome::Absent => Ok(0),
+            LookOutcome::Shut => Err(Failed),
         };
         if answer.is_err() {
             self.faults = base::one_more(self.faults);

@@ -5,7 +5,7 @@ ghost use Rattle.http_wire.specs.Lines.{is_line_byte, IsBlankUpTo, HasNoLineEnd,
 ghost use Rattle.http_wire.specs.Looks.{HoldsHead, MayHaveHead};
 ghost use Rattle.http_wire.specs.Takes.{Takes, BringsPiece, BringsLine, BringsUpTo, Gains, Finds, FindsHead};
 
-use crate::look::{Found, HEAD_LIMIT, at_end, step};
+use crate::look::{HEAD_LIMIT, LookOutcome, at_end, step};
 use crate::message::WireFault;
 use crate::streams::ByteSource;
 use httparse::spans::HeaderSpan;
@@ -97,7 +97,7 @@ fn read_on<S: ByteSource>(
     held: &mut Vec<u8>,
     source: &mut S,
     headers: &mut [HeaderSpan],
-) -> Result<Found, WireFault>
+) -> Result<LookOutcome, WireFault>
     requires room { length headers.old ≡ 64 }
     requires unsettled { MayHaveHead held.old.items }
     ensures takes { Takes held.old.items held.new.items (S.left source.old) (S.left source.new) (S.faults source.old) (S.faults source.new) (S.apart source.old) (S.apart source.new) result }
@@ -105,7 +105,7 @@ fn read_on<S: ByteSource>(
 {
     'reading: loop {
         if !take_line(held, source)? {
-            return Ok(Found::Stopped(at_end(held.as_slice())));
+            return Ok(LookOutcome::Stopped(at_end(held.as_slice())));
         }
         if let Some(found) = step(held.as_slice(), headers) {
             return Ok(found);
@@ -118,7 +118,7 @@ pub fn read_head<S: ByteSource>(
     held: &mut Vec<u8>,
     source: &mut S,
     headers: &mut [HeaderSpan],
-) -> Result<Found, WireFault>
+) -> Result<LookOutcome, WireFault>
     requires { length headers.old ≡ 64 }
     ensures takes { Takes held.old.items held.new.items (S.left source.old) (S.left source.new) (S.faults source.old) (S.faults source.new) (S.apart source.old) (S.apart source.new) result }
     ensures finds { FindsHead held.old.items held.new.items (S.left source.new) headers.new result }

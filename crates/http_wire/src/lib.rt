@@ -38,7 +38,7 @@ pub use laws::{each_answer, one_next, one_reading};
 pub use links::Link;
 pub use list_of_links::ListOfLinks;
 pub use listener::Listener;
-pub use look::{Found, HEAD_LIMIT, Looked, at_end, front_of, step};
+pub use look::{HEAD_LIMIT, LookOutcome, Looked, at_end, front_of, step};
 pub use memory_link::MemoryLink;
 pub use memory_sink::MemorySink;
 pub use memory_source::MemorySource;

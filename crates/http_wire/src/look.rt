@@ -21,7 +21,7 @@ pub enum Looked {
 
 /// What the bytes so far settle.
 #[derive(Clone, Copy)]
-pub enum Found {
+pub enum LookOutcome {
     Head(RequestSpans),
     Stopped(Stop),
 }
@@ -46,19 +46,19 @@ pub fn front_of(held: &[u8]) -> &[u8]
 }
 
 /// What the bytes so far settle, whatever follows them; `None` where a head may still come.
-pub fn step(held: &[u8], headers: &mut [HeaderSpan]) -> Option<Found>
+pub fn step(held: &[u8], headers: &mut [HeaderSpan]) -> Option<LookOutcome>
     requires { length headers.old ≡ 64 }
     ensures { Steps held.now headers.new result }
 {
     match look(front_of(held), headers) {
-        Looked::Whole(spans) => Some(Found::Head(spans)),
-        Looked::Hopeless => Some(Found::Stopped(Stop::Bad(400))),
-        Looked::TooMany => Some(Found::Stopped(Stop::Bad(431))),
+        Looked::Whole(spans) => Some(LookOutcome::Head(spans)),
+        Looked::Hopeless => Some(LookOutcome::Stopped(Stop::Bad(400))),
+        Looked::TooMany => Some(LookOutcome::Stopped(Stop::Bad(431))),
         Looked::Unfinished => {
             if held.len() < HEAD_LIMIT {
                 None
             } else {
-                Some(Found::Stopped(Stop::Bad(431)))
+                Some(LookOutcome::Stopped(Stop::Bad(431)))
             }
         }
     }

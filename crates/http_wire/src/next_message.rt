@@ -5,7 +5,7 @@ ghost use Rattle.http_wire.specs.Fetches.{Fetches};
 ghost use Rattle.http_wire.specs.Messages.{HoldsMessage};
 
 use crate::filling::{read_head, read_up_to};
-use crate::look::Found;
+use crate::look::LookOutcome;
 use crate::message::{Ended, Message, Next, Stop, WireFault};
 use crate::outline::{Outlined, outline_of};
 use crate::streams::ByteSource;
@@ -73,8 +73,8 @@ pub fn next_of<S: ByteSource>(
 {
     let mut headers = [EMPTY_HEADER_SPAN; 64];
     let spans = match read_head(held, source, &mut headers)? {
-        Found::Head(spans) => spans,
-        Found::Stopped(stop) => return Ok(answer_at(stop)),
+        LookOutcome::Head(spans) => spans,
+        LookOutcome::Stopped(stop) => return Ok(answer_at(stop)),
     };
     let outline = match outline_of(alloc, held.as_slice(), &headers, &spans) {
         Ok(Outlined::Good(outline)) => outline,

@@ -15,14 +15,14 @@ use Rattle.job_board.specs.declared.status.JobState.{JobState}
 use Rattle.job_board.specs.declared.status.JobStatus.{JobStatus}
 use Rattle.job_board.specs.declared.posted.Posted.{Posted}
 use Rattle.job_board.specs.declared.posted.WatchedJob.{WatchedJob}
-use Rattle.job_board.specs.declared.shown.Shown.{Shown}
+use Rattle.job_board.specs.declared.shown.BoardShown.{BoardShown}
 use Rattle.job_board.specs.Boards.{HasNumber, IsFinished, IsLooked, IsStopped, TakesOver, is_numbered, state_of, watch_of}
 
 abbrev pub watched : WatchedJob → SheetHolding
 watched j = j.watch
 
 -- a board of these jobs
-abbrev pub board_of : List Posted → List WatchedJob → List JobKind → List Bool → Shown
+abbrev pub board_of : List Posted → List WatchedJob → List JobKind → List Bool → BoardShown
 board_of waiting jobs kinds ends = record { waiting = waiting; watches = map watched jobs; kinds = kinds; ends = ends }
 
 pub is_zero : (n : ℕ) → n ≡ 0 → (n == 0) ≡ true

@@ -13,22 +13,22 @@ use Rattle.job_board.specs.declared.status.JobState.TheVariants as state
 use Rattle.job_board.specs.declared.status.JobStatus.{JobStatus}
 use Rattle.job_board.specs.declared.posted.Posted.{Posted}
 use Rattle.job_board.specs.declared.posted.WatchedJob.{WatchedJob}
-use Rattle.job_board.specs.declared.shown.Command.{Command}
-use Rattle.job_board.specs.declared.shown.Command.TheVariants as command
-use Rattle.job_board.specs.declared.shown.Reply.{Reply}
-use Rattle.job_board.specs.declared.shown.Reply.TheVariants as reply
-use Rattle.job_board.specs.declared.shown.Shown.{Shown}
+use Rattle.job_board.specs.declared.shown.BoardCommand.{BoardCommand}
+use Rattle.job_board.specs.declared.shown.BoardCommand.TheVariants as command
+use Rattle.job_board.specs.declared.shown.BoardReply.{BoardReply}
+use Rattle.job_board.specs.declared.shown.BoardReply.TheVariants as reply
+use Rattle.job_board.specs.declared.shown.BoardShown.{BoardShown}
 
 -- how many jobs were submitted
-abbrev pub submitted : Shown → ℕ
+abbrev pub submitted : BoardShown → ℕ
 submitted b = length b.watches
 
 -- a board lists no truncation; its floor and its front are the number of jobs, so that a turn finds all jobs that its pass has seen
-abbrev pub book_of : Shown → FrontedBook
+abbrev pub book_of : BoardShown → FrontedBook
 book_of b = record { book = record { cuts = []; floor = submitted b }; front = submitted b }
 
 -- a board without jobs
-abbrev pub empty : Shown
+abbrev pub empty : BoardShown
 empty = record { waiting = []; watches = []; kinds = []; ends = [] }
 
 -- SUBMIT
@@ -48,7 +48,7 @@ pub record IsSubmission (number : ℕ) (job : Job) (places : ℕ) (p : Posted) (
   pub watch_is : watch ≡ fresh_holding p.sheet.value None
 
 -- the job gets the next number, and is the last to wait; none where 64 wait or 1,024 were submitted
-abbrev pub Submits : Shown → Job → ℕ → Option ℕ → Shown → Type 0
+abbrev pub Submits : BoardShown → Job → ℕ → Option ℕ → BoardShown → Type 0
 Submits b job places (Some n) a =
     (length b.waiting < 64) × (submitted b < 1024) × (n ≡ submitted b + 1) × ((p : Posted) × (watch : SheetHolding) × IsSubmission n job places p watch × (a ≡ record { waiting = b.waiting ++ p ∷ []; watches = b.watches ++ watch ∷ []; kinds = b.kinds ++ job.kind ∷ []; ends = b.ends ++ false ∷ [] }))
 Submits b job places None a = ((64 ≤ length b.waiting) ⊎ (1024 ≤ submitted b)) × (a ≡ b)
@@ -61,18 +61,18 @@ pub record HasNumber (jobs : ℕ) (p : Posted) : Type 0 where
   pub most : p.number ≤ jobs
 
 -- the first that waits is taken, which is one of the jobs of the board; none where none waits
-abbrev pub TakesNext : Shown → Option Posted → Shown → Type 0
+abbrev pub TakesNext : BoardShown → Option Posted → BoardShown → Type 0
 TakesNext b (Some p) a = HasNumber (submitted b) p × (b ≡ record { waiting = p ∷ a.waiting; watches = a.watches; kinds = a.kinds; ends = a.ends })
 TakesNext b None a = (b.waiting ≡ []) × (a ≡ b)
 
 -- LOOK AND STOP
 
 -- the watch of the job of this number, from 1
-abbrev pub watch_of : Shown → ℕ → Option SheetHolding
+abbrev pub watch_of : BoardShown → ℕ → Option SheetHolding
 watch_of b n = if n == 0 then None else slice_get b.watches (n - 1)
 
 -- the board with another watch of that job
-abbrev pub with_watch : ℕ → SheetHolding → Shown → Shown
+abbrev pub with_watch : ℕ → SheetHolding → BoardShown → BoardShown
 with_watch n watch b = record { waiting = b.waiting; watches = slice_set b.watches (n - 1) watch; kinds = b.kinds; ends = b.ends }
 
 -- it is told that so many places are done, so many failed, and so many of those done not kept
@@ -93,7 +93,7 @@ state_of false false p = state.Running
 state_of false true p = if p.done + p.failed == p.places then state.Done else state.Cancelled
 
 -- What the job does, where it stands, by whether it waits and whether the board was told of its end, and how far it is, as its watch finds; and of a job of which that has seen the end it tells how it ended
-pub record IsLooked (b : Shown) (n : ℕ) (s : JobStatus) (a : Shown) : Type 0 where
+pub record IsLooked (b : BoardShown) (n : ℕ) (s : JobStatus) (a : BoardShown) : Type 0 where
   pub watch : SheetHolding
   pub left : SheetHolding
   pub of_job : watch_of b n ≡ Some watch
@@ -107,12 +107,12 @@ pub record IsLooked (b : Shown) (n : ℕ) (s : JobStatus) (a : Shown) : Type 0 w
   pub stays : StaysEnded watch.sheet.hands watch.seen left.seen
   pub is : a ≡ with_watch n left b
 
-abbrev pub Looks : Shown → ℕ → Option JobStatus → Shown → Type 0
+abbrev pub Looks : BoardShown → ℕ → Option JobStatus → BoardShown → Type 0
 Looks b n (Some s) a = IsLooked b n s a
 Looks b n None a = (watch_of b n ≡ None) × (a ≡ b)
 
 -- the job is cancelled by its watch
-pub record IsStopped (b : Shown) (n : ℕ) (a : Shown) : Type 0 where
+pub record IsStopped (b : BoardShown) (n : ℕ) (a : BoardShown) : Type 0 where
   pub watch : SheetHolding
   pub left : SheetHolding
   pub of_job : watch_of b n ≡ Some watch
@@ -120,7 +120,7 @@ pub record IsStopped (b : Shown) (n : ℕ) (a : Shown) : Type 0 where
   pub stays : StaysEnded watch.sheet.hands watch.seen left.seen
   pub is : a ≡ with_watch n left b
 
-abbrev pub Stops : Shown → ℕ → Bool → Shown → Type 0
+abbrev pub Stops : BoardShown → ℕ → Bool → BoardShown → Type 0
 Stops b n true a = IsStopped b n a
 Stops b n false a = (watch_of b n ≡ None) × (a ≡ b)
 
@@ -135,24 +135,24 @@ pub record TakesOver (watch ended left : SheetHolding) : Type 0 where
   pub cancelled : watch.seen.cancelled ≡ true → left.seen.cancelled ≡ true
 
 -- the board with the job of this number among those that have ended
-abbrev pub with_end : ℕ → Shown → Shown
+abbrev pub with_end : ℕ → BoardShown → BoardShown
 with_end n b = record { waiting = b.waiting; watches = b.watches; kinds = b.kinds; ends = slice_set b.ends (n - 1) true }
 
 -- the job has ended as this watch of its sheet has seen
-pub record IsFinished (b : Shown) (n : ℕ) (ended : SheetHolding) (a : Shown) : Type 0 where
+pub record IsFinished (b : BoardShown) (n : ℕ) (ended : SheetHolding) (a : BoardShown) : Type 0 where
   pub watch : SheetHolding
   pub left : SheetHolding
   pub of_job : watch_of b n ≡ Some watch
   pub takes : TakesOver watch ended left
   pub is : a ≡ with_end n (with_watch n left b)
 
-abbrev pub Finishes : Shown → ℕ → SheetHolding → Bool → Shown → Type 0
+abbrev pub Finishes : BoardShown → ℕ → SheetHolding → Bool → BoardShown → Type 0
 Finishes b n ended true a = IsFinished b n ended a
 Finishes b n ended false a = (watch_of b n ≡ None) × (a ≡ b)
 
 -- ANY COMMAND
 
-abbrev pub Admits : Command → Type 0
+abbrev pub Admits : BoardCommand → Type 0
 Admits (command.Submit job places) = MaySubmit job places
 Admits command.Next = ⊤
 Admits (command.Look n) = ⊤
@@ -160,7 +160,7 @@ Admits (command.Stop n) = ⊤
 Admits (command.Finish n job) = IsSettled job.watch.sheet.hands job.watch.seen
 
 -- a submission alone takes memory
-abbrev pub TakesNoMemory : Command → Type 0
+abbrev pub TakesNoMemory : BoardCommand → Type 0
 TakesNoMemory (command.Submit job places) = ⊥
 TakesNoMemory command.Next = ⊤
 TakesNoMemory (command.Look n) = ⊤
@@ -168,7 +168,7 @@ TakesNoMemory (command.Stop n) = ⊤
 TakesNoMemory (command.Finish n job) = ⊤
 
 -- the reply is of its command's kind, by the command's row
-abbrev pub BoardMayReply : Shown → Command → Reply → Shown → Type 0
+abbrev pub BoardMayReply : BoardShown → BoardCommand → BoardReply → BoardShown → Type 0
 BoardMayReply b (command.Submit job places) r a = (n : Option ℕ) × (r ≡ reply.Submit n) × Submits b job places n a
 BoardMayReply b command.Next r a = (p : Option Posted) × (r ≡ reply.Next p) × TakesNext b p a
 BoardMayReply b (command.Look n) r a = (s : Option JobStatus) × (r ≡ reply.Look s) × Looks b n s a
@@ -178,13 +178,13 @@ BoardMayReply b (command.Finish n job) r a = (is : Bool) × (r ≡ reply.Finish 
 -- A JOB THAT IS OVER
 
 -- the board has been told of the end of the job of this number: so many places done, so many failed, and so many not kept
-pub record IsOver (b : Shown) (n done failed unkept : ℕ) : Type 0 where
+pub record IsOver (b : BoardShown) (n done failed unkept : ℕ) : Type 0 where
   pub watch : SheetHolding
   pub of_job : watch_of b n ≡ Some watch
   pub ended : HasEnded watch.sheet.hands watch.seen done failed unkept
 
 -- it tells of the end of the job of this number
-abbrev pub TellsOfEnd : ℕ → Command → Type 0
+abbrev pub TellsOfEnd : ℕ → BoardCommand → Type 0
 TellsOfEnd n (command.Submit job places) = ⊥
 TellsOfEnd n command.Next = ⊥
 TellsOfEnd n (command.Look m) = ⊥
@@ -193,7 +193,7 @@ TellsOfEnd n (command.Finish m job) = m ≡ n
 
 -- A job that is over stays so with the same numbers, unless its end is told anew; each look at it tells these numbers; and a finish that
 -- finds its job makes it one, with the numbers that the watch has seen which was handed in
-pub record KeepsOver (b : Shown) (does : Command) (r : Reply) (a : Shown) : Type 0 where
+pub record KeepsOver (b : BoardShown) (does : BoardCommand) (r : BoardReply) (a : BoardShown) : Type 0 where
   pub stays : (n done failed unkept : ℕ) → IsOver b n done failed unkept → ¬ (TellsOfEnd n does) → IsOver a n done failed unkept
   pub tells : (n done failed unkept : ℕ) (s : JobStatus) → IsOver b n done failed unkept → does ≡ command.Look n → r ≡ reply.Look (Some s) → TellsNumbers s done failed unkept
   pub ends : (n done failed unkept : ℕ) (job : WatchedJob) → does ≡ command.Finish n job → r ≡ reply.Finish true → HasEnded job.watch.sheet.hands job.watch.seen done failed unkept → IsOver a n done failed unkept

@@ -8,16 +8,16 @@ use Rattle.turnstile.specs.declared.view.Made.{Made}
 use Rattle.turnstile.specs.Passes.{Holding, seen_by}
 use Rattle.job_board.specs.declared.fault.BoardFault.{BoardFault}
 use Rattle.job_board.specs.declared.fault.BoardFault.TheVariants as fault
-use Rattle.job_board.specs.declared.shown.Command.{Command}
-use Rattle.job_board.specs.declared.shown.Command.TheVariants as command
-use Rattle.job_board.specs.declared.shown.Note.{Note}
-use Rattle.job_board.specs.declared.shown.Reply.{Reply}
-use Rattle.job_board.specs.declared.shown.Reply.TheVariants as reply
+use Rattle.job_board.specs.declared.shown.BoardCommand.{BoardCommand}
+use Rattle.job_board.specs.declared.shown.BoardCommand.TheVariants as command
+use Rattle.job_board.specs.declared.shown.BoardNote.{BoardNote}
+use Rattle.job_board.specs.declared.shown.BoardReply.{BoardReply}
+use Rattle.job_board.specs.declared.shown.BoardReply.TheVariants as reply
 use Rattle.job_board.specs.Boards.{BoardMayReply, KeepsOver, book_of}
 
 -- a pass of a board as contracts see it
 abbrev pub BoardHolding : Type 0
-BoardHolding = Holding ℕ Note
+BoardHolding = Holding ℕ BoardNote
 
 -- the pass is one of this board
 pub record IsBoardPass (table : TableId) (pass : BoardHolding) : Type 0 where
@@ -32,7 +32,7 @@ pub record IsFirstBoardPass (table : TableId) (pass : BoardHolding) : Type 0 whe
 
 -- one turn, by a pass that had seen this book: it found a board with at least as many jobs, its command has a reply that it may have, and
 -- what is over stays so
-pub record IsBoardTurn (seen : FrontedBook) (m : Made Note) : Type 0 where
+pub record IsBoardTurn (seen : FrontedBook) (m : Made BoardNote) : Type 0 where
   pub found : m.found ≡ book_of m.note.before
   pub left : m.left ≡ book_of m.note.after
   pub answers : AnswersForFronted m.found seen
@@ -40,8 +40,8 @@ pub record IsBoardTurn (seen : FrontedBook) (m : Made Note) : Type 0 where
   pub over : KeepsOver m.note.before m.note.command m.note.reply m.note.after
 
 -- a call made one turn, of this command and with this reply, and has seen the board that it left
-pub record MakesOne (before after : BoardHolding) (does : Command) (answer : Reply) : Type 0 where
-  pub turn : Made Note
+pub record MakesOne (before after : BoardHolding) (does : BoardCommand) (answer : BoardReply) : Type 0 where
+  pub turn : Made BoardNote
   pub is : after ≡ seen_by before (book_of turn.note.after) (turn ∷ [])
   pub may : IsBoardTurn before.book turn
   pub command_is : turn.note.command ≡ does

@@ -8,7 +8,7 @@ use crate::board::Board;
 use crate::fault::BoardFault;
 use crate::posted::{Posted, WatchedJob};
 use crate::posts::Posts;
-use crate::shown::{Command, Reply};
+use crate::shown::{BoardCommand, BoardReply};
 use crate::status::JobStatus;
 use job_forms::Job;
 use std::alloc::Global;
@@ -34,11 +34,11 @@ impl Board {
     {
         match self
             .turnstile
-            .turn(rt, alloc, pass, Command::Submit(job, places))
+            .turn(rt, alloc, pass, BoardCommand::Submit(job, places))
         {
             Err(_) => Err(BoardFault::OutOfMemory),
-            Ok(Reply::Submit(None)) => Err(BoardFault::Full),
-            Ok(Reply::Submit(Some(number))) => {
+            Ok(BoardReply::Submit(None)) => Err(BoardFault::Full),
+            Ok(BoardReply::Submit(Some(number))) => {
                 self.wake(rt);
                 Ok(number)
             }
@@ -50,11 +50,11 @@ impl Board {
     #[tactic(auto, using(crate::proofs::Over::keeps_over))]
     pub fn next<R: Wait>(&self, rt: &R, pass: &mut Pass<Posts>) -> Option<Posted>
         requires of { IsBoardPass self.now.turnstile.table pass.old }
-        ensures next { MakesOne pass.old pass.new Command.Next (Reply.Next result) }
+        ensures next { MakesOne pass.old pass.new BoardCommand.Next (BoardReply.Next result) }
         ensures of { IsBoardPass self.now.turnstile.table pass.new }
     {
-        match self.turnstile.turn_plain(rt, pass, Command::Next) {
-            Reply::Next(posted) => posted,
+        match self.turnstile.turn_plain(rt, pass, BoardCommand::Next) {
+            BoardReply::Next(posted) => posted,
             _ => unreachable!(),
         }
     }
@@ -64,11 +64,14 @@ impl Board {
     #[tactic(auto, using(crate::proofs::Over::keeps_over))]
     pub fn look<R: Wait>(&self, rt: &R, pass: &mut Pass<Posts>, number: u64) -> Option<JobStatus>
         requires of { IsBoardPass self.now.turnstile.table pass.old }
-        ensures look { MakesOne pass.old pass.new (Command.Look number) (Reply.Look result) }
+        ensures look { MakesOne pass.old pass.new (BoardCommand.Look number) (BoardReply.Look result) }
         ensures of { IsBoardPass self.now.turnstile.table pass.new }
     {
-        match self.turnstile.turn_plain(rt, pass, Command::Look(number)) {
-            Reply::Look(status) => status,
+        match self
+            .turnstile
+            .turn_plain(rt, pass, BoardCommand::Look(number))
+        {
+            BoardReply::Look(status) => status,
             _ => unreachable!(),
         }
     }
@@ -78,11 +81,14 @@ impl Board {
     #[tactic(auto, using(crate::proofs::Over::keeps_over))]
     pub fn stop<R: Wait>(&self, rt: &R, pass: &mut Pass<Posts>, number: u64) -> bool
         requires of { IsBoardPass self.now.turnstile.table pass.old }
-        ensures stop { MakesOne pass.old pass.new (Command.Stop number) (Reply.Stop result) }
+        ensures stop { MakesOne pass.old pass.new (BoardCommand.Stop number) (BoardReply.Stop result) }
         ensures of { IsBoardPass self.now.turnstile.table pass.new }
     {
-        match self.turnstile.turn_plain(rt, pass, Command::Stop(number)) {
-            Reply::Stop(is_stopped) => is_stopped,
+        match self
+            .turnstile
+            .turn_plain(rt, pass, BoardCommand::Stop(number))
+        {
+            BoardReply::Stop(is_stopped) => is_stopped,
             _ => unreachable!(),
         }
     }
@@ -100,14 +106,14 @@ impl Board {
     ) -> bool
         requires of { IsBoardPass self.now.turnstile.table pass.old }
         requires ended { IsSettled ended.watch.sheet.hands ended.watch.seen }
-        ensures finish { MakesOne pass.old pass.new (Command.Finish number ended) (Reply.Finish result) }
+        ensures finish { MakesOne pass.old pass.new (BoardCommand.Finish number ended) (BoardReply.Finish result) }
         ensures of { IsBoardPass self.now.turnstile.table pass.new }
     {
         match self
             .turnstile
-            .turn_plain(rt, pass, Command::Finish(number, ended))
+            .turn_plain(rt, pass, BoardCommand::Finish(number, ended))
         {
-            Reply::Finish(is_finished) => is_finished,
+            BoardReply::Finish(is_finished) => is_finished,
             _ => unreachable!(),
         }
     }

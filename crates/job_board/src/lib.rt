@@ -38,7 +38,7 @@ pub use posted::{Posted, WatchedJob};
 pub use posts::Posts;
 pub use progress::Progress;
 pub use sheet::{Desk, JobSheet};
-pub use shown::{Command, Note, Reply, Shown};
+pub use shown::{BoardCommand, BoardNote, BoardReply, BoardShown};
 pub use standing::{HandAccount, HandEnd, SheetStanding};
 pub use status::{JobState, JobStatus};
 pub use view::{OneStanding, SeatView, SheetSize};

@@ -1,6 +1,6 @@
 //! The board as a chest: a turn does one of its commands.
 use crate::posted::{Posted, WatchedJob};
-use crate::shown::{Command, Note, Reply, Shown};
+use crate::shown::{BoardCommand, BoardNote, BoardReply, BoardShown};
 use job_forms::JobKind;
 use std::alloc::{AllocError, Global};
 use std::marker::Model;
@@ -18,9 +18,9 @@ pub struct Posts {
 impl Model for Posts {
     ghost use Rattle.std.specs.Prelude.{All, ◌≡◌, ◌≤◌, length, map};
     ghost use Rattle.job_board.specs.Boards.{HasNumber};
-    ghost use Rattle.job_board.specs.declared.shown.Shown.{Shown};
+    ghost use Rattle.job_board.specs.declared.shown.BoardShown.{BoardShown};
 
-    ghost Value = { Shown };
+    ghost Value = { BoardShown };
 
     ghost view = { λ p. record { waiting = p.waiting.items; watches = map (λ j. j.watch) p.jobs.items; kinds = p.kinds.items; ends = p.ends.items } };
 
@@ -31,15 +31,15 @@ impl Chest for Posts {
     ghost use Rattle.std.specs.Prelude.{◌≡◌, ⊤};
     ghost use Rattle.job_board.specs.Boards.{Admits, BoardMayReply, TakesNoMemory, book_of};
 
-    type Command = Command;
+    type Command = BoardCommand;
 
-    type Reply = Reply;
+    type Reply = BoardReply;
 
     type Charter = u64;
 
-    type Shown = Shown;
+    type Shown = BoardShown;
 
-    type Note = Note;
+    type Note = BoardNote;
 
     ghost charter = { λ _. 0 };
 
@@ -61,26 +61,28 @@ impl Chest for Posts {
 
     ghost may_reply = { λ _ _ before after command reply. BoardMayReply before command reply after };
 
-    fn act(&mut self, alloc: Global, command: Command) -> Result<Reply, AllocError> {
+    fn act(&mut self, alloc: Global, command: BoardCommand) -> Result<BoardReply, AllocError> {
         match command {
-            Command::Submit(job, places) => match self.submit(alloc, job, places) {
+            BoardCommand::Submit(job, places) => match self.submit(alloc, job, places) {
                 Err(fault) => Err(fault),
-                Ok(number) => Ok(Reply::Submit(number)),
+                Ok(number) => Ok(BoardReply::Submit(number)),
             },
-            Command::Next => Ok(Reply::Next(self.next())),
-            Command::Look(number) => Ok(Reply::Look(self.look(number))),
-            Command::Stop(number) => Ok(Reply::Stop(self.stop(number))),
-            Command::Finish(number, ended) => Ok(Reply::Finish(self.finish(number, ended))),
+            BoardCommand::Next => Ok(BoardReply::Next(self.next())),
+            BoardCommand::Look(number) => Ok(BoardReply::Look(self.look(number))),
+            BoardCommand::Stop(number) => Ok(BoardReply::Stop(self.stop(number))),
+            BoardCommand::Finish(number, ended) => Ok(BoardReply::Finish(self.finish(
+                number, ended,
+            ))),
         }
     }
 
-    fn act_plain(&mut self, command: Command) -> Reply {
+    fn act_plain(&mut self, command: BoardCommand) -> BoardReply {
         match command {
-            Command::Submit(_, _) => unreachable!(),
-            Command::Next => Reply::Next(self.next()),
-            Command::Look(number) => Reply::Look(self.look(number)),
-            Command::Stop(number) => Reply::Stop(self.stop(number)),
-            Command::Finish(number, ended) => Reply::Finish(self.finish(number, ended)),
+            BoardCommand::Submit(_, _) => unreachable!(),
+            BoardCommand::Next => BoardReply::Next(self.next()),
+            BoardCommand::Look(number) => BoardReply::Look(self.look(number)),
+            BoardCommand::Stop(number) => BoardReply::Stop(self.stop(number)),
+            BoardCommand::Finish(number, ended) => BoardReply::Finish(self.finish(number, ended)),
         }
     }
 

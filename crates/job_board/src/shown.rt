@@ -7,7 +7,7 @@ use std::collections::LinkedList;
 
 /// What a turn does.
 #[derive(Drop)]
-pub enum Command {
+pub enum BoardCommand {
     /// Submits a job of so many places.
     Submit(Job, u64),
     /// Posts the job that has waited longest.
@@ -22,7 +22,7 @@ pub enum Command {
 
 /// What a turn is answered.
 #[derive(Drop)]
-pub enum Reply {
+pub enum BoardReply {
     /// The number of the job, from 1; none where the board is full.
     Submit(Option<u64>),
     /// The job that has waited longest; none where none waits.
@@ -38,7 +38,7 @@ pub enum Reply {
 /// What a board shows: the jobs that wait, in the order of their submissions, and of each job that was ever submitted, in the order of
 /// their numbers, the watch of its sheet, as it has seen the sheet last, what it does, and whether the board was told of
 /// its end. No value of it is made.
-pub struct Shown {
+pub struct BoardShown {
     pub waiting: LinkedList<Posted>,
     pub watches: LinkedList<Hand>,
     pub kinds: LinkedList<JobKind>,
@@ -46,9 +46,9 @@ pub struct Shown {
 }
 
 /// A command, its reply, and what the board showed before and after. No value of it is made.
-pub struct Note {
-    pub command: Command,
-    pub reply: Reply,
-    pub before: Shown,
-    pub after: Shown,
+pub struct BoardNote {
+    pub command: BoardCommand,
+    pub reply: BoardReply,
+    pub before: BoardShown,
+    pub after: BoardShown,
 }

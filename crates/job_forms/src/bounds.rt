@@ -30,7 +30,7 @@ fn bound(value: &Value) -> Result<DecimalText, JobFault>
 }
 
 /// A bound in billionths of a unit.
-fn limited(text: DecimalText) -> Result<i64, JobFault>
+fn bound_of(text: DecimalText) -> Result<i64, JobFault>
     ensures value { result ≡ limited text }
     ensures small { IfOk result (λ n. unsigned_abs n ≤ 10 ^ 17) }
 {
@@ -66,10 +66,10 @@ fn box_of(value: &Value) -> Result<Box9, JobFault>
     let lower = bound(lower)?;
     let right = bound(right)?;
     let upper = bound(upper)?;
-    let min_x = limited(left)?;
-    let min_y = limited(lower)?;
-    let max_x = limited(right)?;
-    let max_y = limited(upper)?;
+    let min_x = bound_of(left)?;
+    let min_y = bound_of(lower)?;
+    let max_x = bound_of(right)?;
+    let max_y = bound_of(upper)?;
     in_order(Box9 {
         min_x,
         min_y,

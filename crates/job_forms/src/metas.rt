@@ -34,7 +34,7 @@ fn tiles_within(bounds: Option<Box9>, matrix: &Matrix) -> Option<Range>
 }
 
 /// The rows and columns of the metatiles that hold the tiles of a range.
-fn gathered(factors: &Factors, tiles: Range) -> Range
+fn metatile_range(factors: &Factors, tiles: Range) -> Range
     requires x { 1 ≤ factors.now.x }
     requires y { 1 ≤ factors.now.y }
     ensures { result ≡ gathered factors.now tiles }
@@ -59,7 +59,7 @@ fn metas_within(factors: &Factors, bounds: Option<Box9>, matrix: &Matrix) -> Opt
 {
     match tiles_within(bounds, matrix) {
         None => None,
-        Some(tiles) => Some(gathered(factors, tiles)),
+        Some(tiles) => Some(metatile_range(factors, tiles)),
     }
 }
 

@@ -55,7 +55,7 @@ fn required_kind(object: &Value) -> Result<JobKind, JobFault>
 }
 
 /// One to eight threads.
-fn limited(threads: u64) -> Result<u32, JobFault>
+fn thread_count(threads: u64) -> Result<u32, JobFault>
     ensures value { result ≡ limited threads }
     ensures least { IfOk result (λ n. 1 ≤ n) }
     ensures most { IfOk result (λ n. n ≤ 8) }
@@ -73,7 +73,7 @@ fn threads(value: &Value) -> Result<u32, JobFault>
     ensures most { IfOk result (λ n. n ≤ 8) }
 {
     match value.as_u64() {
-        Some(threads) => limited(threads),
+        Some(threads) => thread_count(threads),
         None => Err(JobFault::Bad(JobField::Threads)),
     }
 }

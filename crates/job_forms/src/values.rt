@@ -13,7 +13,7 @@ use crate::names::{are_known, name_of};
 use catalog::{Catalogue, Dimension, place_named};
 use serde_json::{Map, Value};
 
-fn known<'v>(dims: &[Dimension], value: &'v Value) -> Option<&'v Map<String, Value>>
+fn known_members<'v>(dims: &[Dimension], value: &'v Value) -> Option<&'v Map<String, Value>>
     ensures { option_map (λ m. members_view m.now.entries) result ≡ known dims.now (view value.now) }
 {
     let members = value.as_object()?;
@@ -43,7 +43,7 @@ fn value(dimension: &Dimension, value: &Value) -> Option<u32>
     }
 }
 
-fn wanted(dimension: Option<&Dimension>, object: &Value) -> Result<Option<u32>, JobFault>
+fn wanted_value(dimension: Option<&Dimension>, object: &Value) -> Result<Option<u32>, JobFault>
     requires { IfSome dimension (λ d. IsDimension d.now) }
     ensures value { result ≡ wanted (option_copied dimension.entry) (view object.now) }
     ensures there { IfOk result (λ number. IfSome number (λ n. IsSomeAnd (option_copied dimension.entry) (λ d. n < length d.values))) }
@@ -67,11 +67,13 @@ fn values(catalogue: &Catalogue, layer: u32, object: &Value) -> Result<[Option<u
     ensures value { result ≡ values catalogue.now layer (view object.now) }
     ensures there { IfOk result (λ dims. (dim number : ℕ) → slice_get dims dim ≡ Some (Some number) → IsSomeAnd (dimension_at catalogue.now layer dim) (λ d. number < length d.values)) }
 {
-    known(catalogue.dimensions_of(layer), object).ok_or(JobFault::Bad(JobField::Dimensions))?;
-    let first = wanted(catalogue.dimension_at(layer, 0), object)?;
-    let second = wanted(catalogue.dimension_at(layer, 1), object)?;
-    let third = wanted(catalogue.dimension_at(layer, 2), object)?;
-    let fourth = wanted(catalogue.dimension_at(layer, 3), object)?;
+    known_members(catalogue.dimensions_of(layer), object).ok_or(JobFault::Bad(
+        JobField::Dimensions,
+    ))?;
+    let first = wanted_value(catalogue.dimension_at(layer, 0), object)?;
+    let second = wanted_value(catalogue.dimension_at(layer, 1), object)?;
+    let third = wanted_value(catalogue.dimension_at(layer, 2), object)?;
+    let fourth = wanted_value(catalogue.dimension_at(layer, 3), object)?;
     Ok([first, second, third, fourth])
 }
 

@@ -13,7 +13,7 @@ pub struct Wanted {
 
 /// A number that is wanted, picked by a place among many.
 #[derive(Clone, Copy, PartialEq, Eq)]
-pub struct Pick {
+pub struct PickedNumber {
     pub number: u32,
     /// How often all numbers went round before the place.
     pub rounds: u128,
@@ -47,12 +47,12 @@ impl Wanted {
     }
 
     /// Picks the wanted number at a place of a list in which these numbers go round and round.
-    pub fn pick(self, place: u128) -> Pick
+    pub fn pick(self, place: u128) -> PickedNumber
         requires { 1 ≤ length (numbers self) }
         ensures { IsPicked (numbers self) place result.number result.rounds }
     {
         let count = u128::from(self.count());
-        Pick {
+        PickedNumber {
             number: self.at(place % count),
             rounds: place / count,
         }

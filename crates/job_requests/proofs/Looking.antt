@@ -1,7 +1,7 @@
 -- Looks at the jobs of a board, one after the other.
 use Rattle.std.proofs.Common.{arith, ℕ, suc, ◌≡◌, ◌<◌, ◌≤◌, ◌+◌, List, [], ◌∷◌, ◌++◌, length, length-append, Some, None, inl, inr, refl, sym, ap, subst, ◌∙◌, append_assoc, append-nil}
-use Rattle.job_board.specs.declared.shown.Command.TheVariants as command
-use Rattle.job_board.specs.declared.shown.Reply.TheVariants as reply
+use Rattle.job_board.specs.declared.shown.BoardCommand.TheVariants as command
+use Rattle.job_board.specs.declared.shown.BoardReply.TheVariants as reply
 use Rattle.job_board.specs.declared.status.JobStatus.{JobStatus}
 use Rattle.job_board.specs.Calls.{BoardHolding, MakesOne}
 use Rattle.tile_requests.specs.declared.outcome.Outcome.TheVariants as outcome

@@ -50,7 +50,7 @@ fn job_at(method: Method, behind: &[u8]) -> JobRequest
 }
 
 /// What is asked of the board by a method.
-fn listed(method: Method) -> JobRequest
+fn request_at_board(method: Method) -> JobRequest
     ensures value { result ≡ listed method }
 {
     match method {
@@ -131,7 +131,7 @@ pub fn read_job_request(
         };
     }
     if path == b"/board".as_slice() {
-        return Ok(Some(listed(message.method)));
+        return Ok(Some(request_at_board(message.method)));
     }
     Ok(below(message.method, path))
 }

@@ -5,7 +5,7 @@ use Rattle.std.proofs.lemmas.Bool.{cases_lt}
 use Rattle.std.proofs.lemmas.Bool.Decides.{nat_tests}
 use Rattle.std.proofs.lemmas.Grind.{fold-append}
 use Rattle.std.proofs.lemmas.List.{map-append}
-use Rattle.kept_areas.specs.declared.spot.Spot.{Spot}
+use Rattle.kept_areas.specs.declared.spot.KeptSpot.{KeptSpot}
 use Rattle.kept_areas.specs.Areas.{least_in, lesser}
 use Rattle.kept_areas.specs.Kept.{IsEntered}
 
@@ -46,20 +46,20 @@ taken_next [] i d h = absurd (omega arith)
 taken_next (x ∷ xs) zero d h = refl
 taken_next (x ∷ xs) (suc i) d h = ap (λ zs. x ∷ zs) (taken_next xs i d (omega arith))
 
-pub least_next : (was : Option ℕ) (ss : List Spot) (i : ℕ) (d : Spot) → i < length ss → lesser (least_in was (take i ss)) (get_or ss i d).number ≡ least_in was (take (suc i) ss)
-least_next was ss i d h = sym (ap (λ (zs : List Spot). least_in was zs) (taken_next ss i d h) ∙ rw (map-append, fold-append) refl)
+pub least_next : (was : Option ℕ) (ss : List KeptSpot) (i : ℕ) (d : KeptSpot) → i < length ss → lesser (least_in was (take i ss)) (get_or ss i d).number ≡ least_in was (take (suc i) ss)
+least_next was ss i d h = sym (ap (λ (zs : List KeptSpot). least_in was zs) (taken_next ss i d h) ∙ rw (map-append, fold-append) refl)
 
 fold_out : (was : Option ℕ) (n : ℕ) (ns : List ℕ) → fold lesser (lesser was n) ns ≡ lesser (fold lesser was ns) n
 fold_out was n [] = refl
 fold_out was n (m ∷ ns) = ap (λ (o : Option ℕ). fold lesser o ns) (lesser_swap was n m) ∙ fold_out (lesser was m) n ns
 
-parted : (was : Option ℕ) (xs ys : List Spot) → least_in was (xs ++ ys) ≡ least_in (least_in was xs) ys
+parted : (was : Option ℕ) (xs ys : List KeptSpot) → least_in was (xs ++ ys) ≡ least_in (least_in was xs) ys
 parted was xs ys = rw (map-append, fold-append) refl
 
-pub least_entered : (s : Spot) (old new : List Spot) → IsEntered s old new → least_in None new ≡ lesser (least_in None old) s.number
+pub least_entered : (s : KeptSpot) (old new : List KeptSpot) → IsEntered s old new → least_in None new ≡ lesser (least_in None old) s.number
 least_entered s old new e =
-    let many : least_in None new ≡ least_in (least_in None e.before) (s ∷ e.behind) = ap (λ (zs : List Spot). least_in None zs) e.new_is ∙ parted None e.before (s ∷ e.behind) in
-    let few : least_in None old ≡ least_in (least_in None e.before) e.behind = ap (λ (zs : List Spot). least_in None zs) e.old_is ∙ parted None e.before e.behind in
+    let many : least_in None new ≡ least_in (least_in None e.before) (s ∷ e.behind) = ap (λ (zs : List KeptSpot). least_in None zs) e.new_is ∙ parted None e.before (s ∷ e.behind) in
+    let few : least_in None old ≡ least_in (least_in None e.before) e.behind = ap (λ (zs : List KeptSpot). least_in None zs) e.old_is ∙ parted None e.before e.behind in
     many ∙ fold_out (least_in None e.before) s.number (map (λ t. t.number) e.behind) ∙ ap (λ (o : Option ℕ). lesser o s.number) (sym few)
 
 -- PARTS
@@ -80,11 +80,11 @@ fold_parts : (was : Option ℕ) (ns : List ℕ) → fold lesser was ns ≡ lesse
 fold_parts was [] = refl
 fold_parts was (n ∷ ns) = fold_parts (lesser was n) ns ∙ through was n (fold lesser None ns) ∙ ap (lesser_of was) (sym (fold_parts (Some n) ns))
 
-pub least_none : (was : Option ℕ) (ss : List Spot) → None ≡ least_in None ss → was ≡ least_in was ss
+pub least_none : (was : Option ℕ) (ss : List KeptSpot) → None ≡ least_in None ss → was ≡ least_in was ss
 least_none was ss e = sym (fold_parts was (map (λ s. s.number) ss) ∙ ap (lesser_of was) (sym e))
 
-pub least_some : (was : Option ℕ) (n : ℕ) (ss : List Spot) → Some n ≡ least_in None ss → lesser was n ≡ least_in was ss
+pub least_some : (was : Option ℕ) (n : ℕ) (ss : List KeptSpot) → Some n ≡ least_in None ss → lesser was n ≡ least_in was ss
 least_some was n ss e = sym (fold_parts was (map (λ s. s.number) ss) ∙ ap (lesser_of was) (sym e))
 
-pub least_joined : (was : Option ℕ) (xs ys : List Spot) → least_in (least_in was xs) ys ≡ least_in was (xs ++ ys)
+pub least_joined : (was : Option ℕ) (xs ys : List KeptSpot) → least_in (least_in was xs) ys ≡ least_in was (xs ++ ys)
 least_joined was xs ys = sym (parted was xs ys)

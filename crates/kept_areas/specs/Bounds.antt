@@ -6,14 +6,14 @@ use Rattle.metatile_plan.specs.declared.metatile.MetaKey.{MetaKey}
 use Rattle.truncation_list.specs.declared.cover.Cover.{Cover}
 use Rattle.kept_areas.specs.declared.side.Side.{Side}
 use Rattle.kept_areas.specs.declared.side.Sides.{Sides}
-use Rattle.kept_areas.specs.declared.spot.Spot.{Spot}
+use Rattle.kept_areas.specs.declared.spot.KeptSpot.{KeptSpot}
 use Rattle.kept_areas.specs.Areas.{least_in, lesser}
 
 -- widened so that it has the number
 abbrev pub widen : Side → ℕ → Side
 widen s n = record { least = min s.least n; most = max s.most n }
 
-abbrev pub widened : Sides → Spot → Sides
+abbrev pub widened : Sides → KeptSpot → Sides
 widened b s =
     record {
       layer = widen b.layer s.meta.theme.layer;
@@ -37,7 +37,7 @@ pub record IsWithin (b : Sides) (m : MetaKey) : Type 0 where
   pub col : IsOn b.col m.col
 
 -- all keys are within the bounds, whose number is the least of theirs
-pub record AreBounded (ss : List Spot) (b : Sides) : Type 0 where
+pub record AreBounded (ss : List KeptSpot) (b : Sides) : Type 0 where
   pub within : AllByRecursion (λ s. IsWithin b s.meta) ss
   pub number : b.number ≡ least_in None ss
 

@@ -11,7 +11,7 @@ ghost use Rattle.truncation_list.specs.Covers.{IsWithinReach};
 use crate::bounds::{UNBOUNDED, bounds_of, bounds_without, may_have, may_hit, widened};
 use crate::order::{is_before, place_in};
 use crate::side::Sides;
-use crate::spot::Spot;
+use crate::spot::KeptSpot;
 use crate::table::{hit_in, index_in, least_of, lesser};
 use catalog::Grid;
 use matrix_geometry::Theme;
@@ -38,7 +38,7 @@ const LAST: MetaKey = MetaKey {
 };
 
 /// Puts a key before the one at an index, with no memory taken.
-fn insert_at(spots: &mut Vec<Spot>, index: usize, spot: &Spot)
+fn insert_at(spots: &mut Vec<KeptSpot>, index: usize, spot: &KeptSpot)
     requires room { vec_len spots.old < vec_capacity spots.old }
     requires within { index ≤ vec_len spots.old }
     ensures items { spots.new.items ≡ insert spots.old.items index spot.now }
@@ -53,16 +53,16 @@ pub struct Area {
     bounds: Sides,
     /// Its keys are meant to come not before this one.
     first: MetaKey,
-    spots: Vec<Spot>,
+    spots: Vec<KeptSpot>,
 }
 
 impl Model for Area {
     ghost use Rattle.std.specs.Prelude.{List, length, vec_capacity, ◌≤◌};
-    ghost use Rattle.kept_areas.specs.declared.spot.Spot.{Spot};
+    ghost use Rattle.kept_areas.specs.declared.spot.KeptSpot.{KeptSpot};
     ghost use Rattle.kept_areas.specs.Bounds.{AreBounded};
     ghost use Rattle.kept_areas.specs.Kept.{chunk_room};
 
-    ghost Value = { List Spot };
+    ghost Value = { List KeptSpot };
 
     ghost view = { λ a. a.spots.items };
 
@@ -83,7 +83,7 @@ impl Area {
     }
 
     /// Its keys.
-    pub fn spots(&self) -> &[Spot]
+    pub fn spots(&self) -> &[KeptSpot]
         ensures { result.now ≡ self.now }
     {
         self.spots.as_slice()
@@ -129,7 +129,7 @@ impl Area {
     /// The index of a metatile, looked for where it is meant to stand.
     pub fn guess(&self, meta: &MetaKey) -> Option<usize>
         ensures known { IfSome result (λ index. index < length self.now) }
-        ensures at { IfSome result (λ index. (d : Spot) → same_meta (slice_index_or self.now index d).meta meta.now ≡ true) }
+        ensures at { IfSome result (λ index. (d : KeptSpot) → same_meta (slice_index_or self.now index d).meta meta.now ≡ true) }
     {
         let spots = self.spots.as_slice();
         let index = place_in(spots, meta);
@@ -142,7 +142,7 @@ impl Area {
     /// The index of a metatile; `None` exactly where it isn't there.
     pub fn index_of(&self, meta: &MetaKey) -> Option<usize>
         ensures known { IfSome result (λ index. index < length self.now) }
-        ensures at { IfSome result (λ index. (d : Spot) → same_meta (slice_index_or self.now index d).meta meta.now ≡ true) }
+        ensures at { IfSome result (λ index. (d : KeptSpot) → same_meta (slice_index_or self.now index d).meta meta.now ≡ true) }
         ensures none { IfNone result (number_in self.now meta.now ≡ None) }
     {
         if !may_have(&self.bounds, meta) {
@@ -169,7 +169,7 @@ impl Area {
     }
 
     /// Enters a key.
-    pub fn enter(&mut self, spot: &Spot)
+    pub fn enter(&mut self, spot: &KeptSpot)
         requires room { length self.old < chunk_room }
         ensures { IsEntered spot.now self.old self.new }
     {
@@ -188,7 +188,7 @@ impl Area {
     }
 
     /// Enters keys behind its own.
-    pub fn append(&mut self, spots: &[Spot])
+    pub fn append(&mut self, spots: &[KeptSpot])
         requires room { length self.old + length spots.now ≤ chunk_room }
         ensures { self.new ≡ self.old ++ spots.now }
     {

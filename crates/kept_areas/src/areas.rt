@@ -9,7 +9,7 @@ ghost use Rattle.truncation_list.specs.Covers.{IsWithinReach};
 use crate::area::{Area, ROOM};
 use crate::chunks::{enter, grow, prepare, take_out};
 use crate::looking::{first_of, place_of};
-use crate::spot::{Hit, Spot};
+use crate::spot::{Hit, KeptSpot};
 use crate::walk::{hit_among, least_among};
 use catalog::Grid;
 use metatile_plan::{Factors, MetaKey};
@@ -18,7 +18,7 @@ use std::marker::Model;
 use truncation_list::Cover;
 
 /// How many metatiles there will be room for in all, where so many are to be kept beside those that are.
-fn needed(taken: usize, metatiles: usize) -> Result<usize, AllocError>
+fn room_for(taken: usize, metatiles: usize) -> Result<usize, AllocError>
     ensures { IfOk result (λ room. (room ≡ taken + metatiles) × (room < 2 ^ 62)) }
 {
     if metatiles >= 1 << 61 || taken >= 1 << 61 {
@@ -94,7 +94,7 @@ impl KeptAreas {
         if metatiles <= self.room - self.taken {
             return Ok(());
         }
-        let room = needed(self.taken, metatiles)?;
+        let room = room_for(self.taken, metatiles)?;
         grow(&mut self.chunks, self.alloc, 2 * (room / ROOM + 1))?;
         self.room = room;
         Ok(())
@@ -111,7 +111,7 @@ impl KeptAreas {
         self.used = enter(
             &mut self.chunks,
             self.used,
-            &Spot {
+            &KeptSpot {
                 meta: *meta,
                 number,
             },

@@ -4,14 +4,14 @@ ghost use Rattle.std.specs.Prelude.{IsTrue, List, false, ◌==◌, ◌≡◌};
 ghost use Rattle.catalog.specs.Valid.{IsGrid};
 ghost use Rattle.kept_areas.specs.Bounds.{AreBounded, IsWithin, is_near, meets_sides, widen, widened};
 ghost use Rattle.kept_areas.specs.Kept.{IsEntered};
-ghost use Rattle.kept_areas.specs.declared.spot.Spot.{Spot};
+ghost use Rattle.kept_areas.specs.declared.spot.KeptSpot.{KeptSpot};
 ghost use Rattle.metatile_locks.specs.Reach.{IsAimed};
 ghost use Rattle.metatile_locks.specs.Running.{IsPlanOn, hits_in};
 ghost use Rattle.metatile_plan.specs.declared.metatile.MetaKey.{MetaKey};
 ghost use Rattle.truncation_list.specs.Covers.{IsWithinReach};
 
 use crate::side::{Side, Sides};
-use crate::spot::Spot;
+use crate::spot::KeptSpot;
 use crate::table::{least_of, lesser};
 use catalog::Grid;
 use matrix_geometry::Range;
@@ -46,7 +46,7 @@ fn widen(side: Side, number: u32) -> Side
 }
 
 /// Bounds with one key more within them.
-pub fn widened(bounds: &Sides, spot: &Spot) -> Sides
+pub fn widened(bounds: &Sides, spot: &KeptSpot) -> Sides
     ensures { result ≡ widened bounds.now spot.now }
 {
     Sides {
@@ -60,7 +60,7 @@ pub fn widened(bounds: &Sides, spot: &Spot) -> Sides
 }
 
 /// The bounds of some keys.
-pub fn bounds_of(spots: &[Spot]) -> Sides
+pub fn bounds_of(spots: &[KeptSpot]) -> Sides
     ensures { AreBounded spots.now result }
 {
     let mut bounds = UNBOUNDED;
@@ -82,8 +82,8 @@ fn is_least(bounds: &Sides, number: u64) -> bool
 
 /// The bounds of the keys that are left where one is gone: they stay as wide as they were, and their least number is found anew
 /// where it went with that key.
-pub fn bounds_without(bounds: &Sides, spots: &[Spot], gone: &Spot) -> Sides
-    ensures { (old : List Spot) → IsEntered gone.now spots.now old → AreBounded old bounds.now → AreBounded spots.now result }
+pub fn bounds_without(bounds: &Sides, spots: &[KeptSpot], gone: &KeptSpot) -> Sides
+    ensures { (old : List KeptSpot) → IsEntered gone.now spots.now old → AreBounded old bounds.now → AreBounded spots.now result }
 {
     if is_least(bounds, gone.number) {
         return Sides {

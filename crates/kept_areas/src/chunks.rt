@@ -6,7 +6,7 @@ ghost use Rattle.kept_areas.specs.Kept.{AreCrowded, IsEntered, IsUsed, chunk_at,
 use crate::area::{Area, ROOM};
 use crate::looking::{Place, chunk_for, first_of};
 use crate::order::place_in;
-use crate::spot::Spot;
+use crate::spot::KeptSpot;
 use metatile_plan::MetaKey;
 use std::alloc::{AllocError, Global};
 
@@ -157,7 +157,7 @@ fn make_room(chunks: &mut Vec<Area>, used: usize, chunk: usize, meta: &MetaKey) 
 }
 
 /// Enters a key in a chunk that has room.
-fn put(chunks: &mut Vec<Area>, chunk: usize, spot: &Spot)
+fn put(chunks: &mut Vec<Area>, chunk: usize, spot: &KeptSpot)
     requires known { chunk < length chunks.old.items }
     requires room { length (chunk_at chunks.old.items chunk) < chunk_room }
     ensures entered { IsEntered spot.now (all_spots chunks.old.items) (all_spots chunks.new.items) }
@@ -169,7 +169,7 @@ fn put(chunks: &mut Vec<Area>, chunk: usize, spot: &Spot)
 
 /// Enters a key where it is meant to stand among the first so many chunks, which are all that may have keys, and tells how many
 /// these are then.
-pub fn enter(chunks: &mut Vec<Area>, used: usize, spot: &Spot) -> usize
+pub fn enter(chunks: &mut Vec<Area>, used: usize, spot: &KeptSpot) -> usize
     requires first { IsUsed chunks.old.items used }
     requires free { used < length chunks.old.items }
     ensures entered { IsEntered spot.now (all_spots chunks.old.items) (all_spots chunks.new.items) }

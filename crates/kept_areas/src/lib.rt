@@ -20,4 +20,4 @@ mod table;
 mod walk;
 
 pub use areas::KeptAreas;
-pub use spot::{Hit, Spot};
+pub use spot::{Hit, KeptSpot};

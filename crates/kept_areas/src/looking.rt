@@ -5,7 +5,7 @@ ghost use Rattle.kept_areas.specs.Kept.{chunk_at};
 ghost use Rattle.metatile_plan.specs.Keys.{same_meta};
 
 use crate::area::Area;
-use crate::spot::Spot;
+use crate::spot::KeptSpot;
 use metatile_plan::MetaKey;
 
 /// Where a key stands.
@@ -50,7 +50,7 @@ pub fn chunk_for(chunks: &[Area], meta: &MetaKey) -> usize
 fn search(chunks: &[Area], meta: &MetaKey) -> Option<Place>
     ensures known { IfSome result (λ place. place.chunk < length chunks.now) }
     ensures within { IfSome result (λ place. place.index < length (chunk_at chunks.now place.chunk)) }
-    ensures at { IfSome result (λ place. (d : Spot) → same_meta (slice_index_or (chunk_at chunks.now place.chunk) place.index d).meta meta.now ≡ true) }
+    ensures at { IfSome result (λ place. (d : KeptSpot) → same_meta (slice_index_or (chunk_at chunks.now place.chunk) place.index d).meta meta.now ≡ true) }
     ensures none { IfNone result (number_in (all_spots chunks.now) meta.now ≡ None) }
 {
     let mut chunk = 0;
@@ -73,7 +73,7 @@ fn search(chunks: &[Area], meta: &MetaKey) -> Option<Place>
 pub fn place_of(chunks: &[Area], meta: &MetaKey) -> Option<Place>
     ensures known { IfSome result (λ place. place.chunk < length chunks.now) }
     ensures within { IfSome result (λ place. place.index < length (chunk_at chunks.now place.chunk)) }
-    ensures at { IfSome result (λ place. (d : Spot) → same_meta (slice_index_or (chunk_at chunks.now place.chunk) place.index d).meta meta.now ≡ true) }
+    ensures at { IfSome result (λ place. (d : KeptSpot) → same_meta (slice_index_or (chunk_at chunks.now place.chunk) place.index d).meta meta.now ≡ true) }
     ensures none { IfNone result (number_in (all_spots chunks.now) meta.now ≡ None) }
 {
     if chunks.is_empty() {

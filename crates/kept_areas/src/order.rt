@@ -2,7 +2,7 @@
 //! first: nothing that is promised rests on it.
 ghost use Rattle.std.specs.Prelude.{length, ◌≤◌};
 
-use crate::spot::Spot;
+use crate::spot::KeptSpot;
 use metatile_plan::MetaKey;
 
 /// Whether one place comes before another along the curve that goes through the four quarters of each square in turn: the one
@@ -39,7 +39,7 @@ pub fn is_before(a: &MetaKey, b: &MetaKey) -> bool {
 }
 
 /// How many of the spots come before a key.
-pub fn place_in(spots: &[Spot], meta: &MetaKey) -> usize
+pub fn place_in(spots: &[KeptSpot], meta: &MetaKey) -> usize
     ensures { result ≤ length spots.now }
 {
     let mut low = 0;

@@ -3,7 +3,7 @@ use metatile_plan::MetaKey;
 
 /// The key of a kept metatile, with the number of the render that is kept of it.
 #[derive(Clone, Copy, PartialEq, Eq)]
-pub struct Spot {
+pub struct KeptSpot {
     pub meta: MetaKey,
     pub number: u64,
 }

@@ -7,7 +7,7 @@ ghost use Rattle.metatile_locks.specs.Running.{IsPlanOn, hits_in};
 ghost use Rattle.metatile_plan.specs.Keys.{same_meta};
 ghost use Rattle.truncation_list.specs.Covers.{IsWithinReach};
 
-use crate::spot::Spot;
+use crate::spot::KeptSpot;
 use catalog::Grid;
 use metatile_locks::Aim;
 use metatile_plan::{Factors, MetaKey, same_meta};
@@ -24,7 +24,7 @@ pub fn lesser(was: Option<u64>, number: u64) -> Option<u64>
 }
 
 /// The least of the numbers and of one that was found before.
-pub fn least_of(spots: &[Spot], was: Option<u64>) -> Option<u64>
+pub fn least_of(spots: &[KeptSpot], was: Option<u64>) -> Option<u64>
     ensures { result ≡ least_in was spots.now }
 {
     let mut least = was;
@@ -36,7 +36,7 @@ pub fn least_of(spots: &[Spot], was: Option<u64>) -> Option<u64>
 
 /// A key that the cover hits, the last of them; `None` exactly where it hits none.
 pub fn hit_in(
-    spots: &[Spot],
+    spots: &[KeptSpot],
     aim: &mut Aim,
     f: &Factors,
     grid: &Grid,
@@ -64,9 +64,9 @@ pub fn hit_in(
 }
 
 /// The index of a metatile; `None` exactly where it isn't there.
-pub fn index_in(spots: &[Spot], meta: &MetaKey) -> Option<usize>
+pub fn index_in(spots: &[KeptSpot], meta: &MetaKey) -> Option<usize>
     ensures known { IfSome result (λ index. index < length spots.now) }
-    ensures at { IfSome result (λ index. (d : Spot) → same_meta (slice_index_or spots.now index d).meta meta.now ≡ true) }
+    ensures at { IfSome result (λ index. (d : KeptSpot) → same_meta (slice_index_or spots.now index d).meta meta.now ≡ true) }
     ensures none { IfNone result (number_in spots.now meta.now ≡ None) }
 {
     let mut index = spots.len();

@@ -31,7 +31,7 @@ fn formed(dims: &[Dimension], part: u32, object: Option<&Value>) -> Result<(), R
 }
 
 /// The text that the member gives to a dimension.
-fn given<'v>(object: Option<&'v Value>, dimension: &Dimension) -> Option<&'v [u8]>
+fn text_given<'v>(object: Option<&'v Value>, dimension: &Dimension) -> Option<&'v [u8]>
     requires { IsDimension dimension.now }
     ensures { option_copied result ≡ given (option_map (λ v. view v.now) object.entry) dimension.now.id }
 {
@@ -77,7 +77,7 @@ fn drafted(
 {
     let mut draft = ThemeDraft::new(layer, style);
     for dimension in catalogue.dimensions_of(layer) {
-        draft = with_value(draft, catalogue, part, given(object, dimension))?;
+        draft = with_value(draft, catalogue, part, text_given(object, dimension))?;
     }
     Ok(draft)
 }

@@ -144,7 +144,12 @@ fn is_within_extent(span: &Ratio, tile: Size, size: Size) -> bool
 }
 
 /// The matrix of its parts, with no span where a number that makes it is 0 or less.
-fn made(span: Option<Ratio>, corner: &Corner, tile: Size, size: Size) -> Result<Matrix, GridFault>
+fn matrix_of_parts(
+    span: Option<Ratio>,
+    corner: &Corner,
+    tile: Size,
+    size: Size,
+) -> Result<Matrix, GridFault>
     requires { ForSome span (λ s. pos 0 <ℤ s.n) }
     ensures made { result ≡ made_of span corner.now tile size }
     ensures limits { IfOk result (λ m. IsWithinLimits m) }
@@ -244,7 +249,7 @@ impl Matrix {
         ensures made { result ≡ made_of_span span.now corner.now tile size }
         ensures limits { IfOk result (λ m. IsWithinLimits m) }
     {
-        made(positive(*span), corner, tile, size)
+        matrix_of_parts(positive(*span), corner, tile, size)
     }
 
     /// The matrix of a scale denominator and the meters in a unit of the grid (OGC 07-057r7, section 6.1); its size is in
@@ -260,6 +265,6 @@ impl Matrix {
         ensures made { result ≡ made_of_scale scale.now meters.now corner.now tile size }
         ensures limits { IfOk result (λ m. IsWithinLimits m) }
     {
-        made(span_of_scale(scale, meters), corner, tile, size)
+        matrix_of_parts(span_of_scale(scale, meters), corner, tile, size)
     }
 }

@@ -34,7 +34,7 @@ fn tiles_within(bounds: Option<Box9>, m: &Matrix) -> Option<Range>
 }
 
 /// The metatiles that hold these tiles.
-fn gathered(f: &Factors, tiles: Range) -> Range
+fn metatile_range(f: &Factors, tiles: Range) -> Range
     requires x { 1 ≤ f.now.x }
     requires y { 1 ≤ f.now.y }
     ensures { result ≡ gathered f.now tiles }
@@ -56,7 +56,7 @@ fn reach_on(f: &Factors, m: &Matrix, cover: &Cover) -> Option<Range>
 {
     match tiles_within(cover.bounds, m) {
         None => None,
-        Some(tiles) => Some(gathered(f, tiles)),
+        Some(tiles) => Some(metatile_range(f, tiles)),
     }
 }
 

@@ -35,7 +35,7 @@ pub fn render_of<'a>(renders: &'a [Render], number: u64, meta: &MetaKey) -> Opti
 }
 
 /// The render, with this mark where the cover hits it.
-fn marked(
+fn marked_render(
     aim: &mut Aim,
     f: &Factors,
     grid: &Grid,
@@ -68,7 +68,7 @@ fn mark_each(renders: &mut [Render], f: &Factors, grid: &Grid, cover: &Cover, nu
 {
     let mut aim = Aim::at(f, grid, cover, cover.z_start);
     'marking: for i in 0..renders.len() {
-        renders[i] = marked(&mut aim, f, grid, cover, number, renders[i]);
+        renders[i] = marked_render(&mut aim, f, grid, cover, number, renders[i]);
     }
 }
 

@@ -37,7 +37,7 @@ enum Unopened {
 
 impl Unopened {
     /// A call of a file that the system refused, before it is open.
-    fn refused(call: FileCall, error: &io::Error) -> Unopened {
+    fn of_refusal(call: FileCall, error: &io::Error) -> Unopened {
         Unopened::Refused(FileFault::of(call, 0, error))
     }
 
@@ -61,7 +61,7 @@ fn open_file<R: Files<File = File>>(rt: &R, path: &str, makes: bool) -> Result<F
     match opened {
         Ok(file) => Ok(file),
         Err(error) if error.kind() == ErrorKind::NotFound && !makes => Err(Unopened::Absent),
-        Err(error) => Err(Unopened::refused(FileCall::Open, &error)),
+        Err(error) => Err(Unopened::of_refusal(FileCall::Open, &error)),
     }
 }
 
@@ -70,7 +70,7 @@ fn lock_file(file: &File) -> Result<(), Unopened> {
     match file.try_lock() {
         Ok(()) => Ok(()),
         Err(TryLockError::WouldBlock) => Err(Unopened::in_use()),
-        Err(TryLockError::Error(error)) => Err(Unopened::refused(FileCall::Lock, &error)),
+        Err(TryLockError::Error(error)) => Err(Unopened::of_refusal(FileCall::Lock, &error)),
     }
 }
 
@@ -78,7 +78,7 @@ fn lock_file(file: &File) -> Result<(), Unopened> {
 fn sync_folder<R: Files<File = File>>(rt: &R) -> Result<(), Unopened> {
     match File::open(rt, ".").and_then(|folder| folder.sync_all()) {
         Ok(()) => Ok(()),
-        Err(error) => Err(Unopened::refused(FileCall::Sync, &error)),
+        Err(error) => Err(Unopened::of_refusal(FileCall::Sync, &error)),
     }
 }
 
@@ -121,7 +121,7 @@ impl CacheDisk {
 }
 
 /// A call on a file that isn't open, which fails and is counted.
-fn failed(faults: &mut u64) -> Result<(), Failed>
+fn count_fault(faults: &mut u64) -> Result<(), Failed>
     ensures { HasCause faults.old faults.new result }
 {
     *faults = one_more(*faults);
@@ -144,23 +144,23 @@ impl Disk for CacheDisk {
                 into.fill(0);
                 Ok(())
             }
-            CacheDisk::Shut(faults, _) => failed(faults),
+            CacheDisk::Shut(faults, _) => count_fault(faults),
         }
     }
 
     fn read_of(&mut self, part: BlobPart, at: u64, into: &mut [u8]) -> Result<(), Failed> {
         match self {
             CacheDisk::File(file) => file.read_of(part, at, into),
-            CacheDisk::Absent(faults) => failed(faults),
-            CacheDisk::Shut(faults, _) => failed(faults),
+            CacheDisk::Absent(faults) => count_fault(faults),
+            CacheDisk::Shut(faults, _) => count_fault(faults),
         }
     }
 
     fn write_at(&mut self, at: u64, bytes: &[u8]) -> Result<(), Failed> {
         match self {
             CacheDisk::File(file) => file.write_at(at, bytes),
-            CacheDisk::Absent(faults) => failed(faults),
-            CacheDisk::Shut(faults, _) => failed(faults),
+            CacheDisk::Absent(faults) => count_fault(faults),
+            CacheDisk::Shut(faults, _) => count_fault(faults),
         }
     }
 
@@ -173,16 +173,16 @@ impl Disk for CacheDisk {
     ) -> Result<(), Failed> {
         match self {
             CacheDisk::File(file) => file.write_of(part, piece, at, bytes),
-            CacheDisk::Absent(faults) => failed(faults),
-            CacheDisk::Shut(faults, _) => failed(faults),
+            CacheDisk::Absent(faults) => count_fault(faults),
+            CacheDisk::Shut(faults, _) => count_fault(faults),
         }
     }
 
     fn cut(&mut self, length: u64) -> Result<(), Failed> {
         match self {
             CacheDisk::File(file) => file.cut(length),
-            CacheDisk::Absent(faults) => failed(faults),
-            CacheDisk::Shut(faults, _) => failed(faults),
+            CacheDisk::Absent(faults) => count_fault(faults),
+            CacheDisk::Shut(faults, _) => count_fault(faults),
         }
     }
 
@@ -190,7 +190,7 @@ impl Disk for CacheDisk {
         match self {
             CacheDisk::File(file) => file.sync(),
             CacheDisk::Absent(_) => Ok(()),
-            CacheDisk::Shut(faults, _) => failed(faults),
+            CacheDisk::Shut(faults, _) => count_fault(faults),
         }
     }
 

@@ -46,7 +46,7 @@ impl StreamLink {
     }
 
     /// A connection to the program that waits for one at a port of this machine. Fails where none does.
-    pub fn connected<R: Net<Listener = TcpListener, Stream = TcpStream>>(
+    pub fn connect<R: Net<Listener = TcpListener, Stream = TcpStream>>(
         rt: &R,
         port: u16,
     ) -> io::Result<StreamLink> {

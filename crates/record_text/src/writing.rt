@@ -135,7 +135,7 @@ fn with_bounds(draft: Draft, edges: Option<Box9>) -> Draft
 }
 
 /// 0 for any, and else the number plus 1.
-fn wanted(number: Option<u32>) -> u32
+fn wanted_code(number: Option<u32>) -> u32
     requires { wanted number < 2 ^ 16 }
     ensures { result ≡ wanted number }
 {
@@ -152,8 +152,16 @@ fn with_filter(draft: Draft, admitted: &Filter) -> Draft
     ensures size { length result ≡ length draft + 9 }
 {
     let [first, second, third, fourth] = admitted.dims;
-    let values = [wanted(first), wanted(second), wanted(third), wanted(fourth)];
-    with_values(draft.number(u64::from(wanted(admitted.style)), 1), values)
+    let values = [
+        wanted_code(first),
+        wanted_code(second),
+        wanted_code(third),
+        wanted_code(fourth),
+    ];
+    with_values(
+        draft.number(u64::from(wanted_code(admitted.style)), 1),
+        values,
+    )
 }
 
 fn with_cover(draft: Draft, part: &Cover) -> Draft

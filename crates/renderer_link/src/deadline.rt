@@ -1,5 +1,5 @@
 //! A bound on the time of an exchange.
-use crate::fault::RenderFault;
+use crate::fault::RendererFault;
 use std::time::{Clock, Duration};
 
 /// The moment at which an exchange has to be over.
@@ -9,25 +9,25 @@ pub struct Deadline {
 }
 
 /// The moment now. A clock that can't be read is a fault of the stream, since nothing may then be waited for.
-fn now<R: Clock>(rt: &R) -> Result<Duration, RenderFault> {
+fn now<R: Clock>(rt: &R) -> Result<Duration, RendererFault> {
     rt.monotonic()
-        .map_err(|error| RenderFault::Stream(error.kind()))
+        .map_err(|error| RendererFault::Stream(error.kind()))
 }
 
 impl Deadline {
     /// So many seconds from now.
-    pub fn after<R: Clock>(rt: &R, seconds: u32) -> Result<Deadline, RenderFault> {
+    pub fn after<R: Clock>(rt: &R, seconds: u32) -> Result<Deadline, RendererFault> {
         match now(rt)?.checked_add(Duration::from_secs(u64::from(seconds))) {
             Some(at) => Ok(Deadline { at }),
-            None => Err(RenderFault::Late),
+            None => Err(RendererFault::Late),
         }
     }
 
     /// The time that is left, which is some; `Late` where none is.
-    pub fn left<R: Clock>(&self, rt: &R) -> Result<Duration, RenderFault> {
+    pub fn left<R: Clock>(&self, rt: &R) -> Result<Duration, RendererFault> {
         match self.at.checked_sub(now(rt)?) {
             Some(left) if left > Duration::ZERO => Ok(left),
-            _ => Err(RenderFault::Late),
+            _ => Err(RendererFault::Late),
         }
     }
 }

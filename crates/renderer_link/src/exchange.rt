@@ -35,7 +35,7 @@ fn ended(answer: HttpAnswer) -> Result<Vec<u8>, ExchangeFault>
 }
 
 /// What comes of an answer and the piece behind it.
-fn taken(answer: HttpAnswer, piece: &[u8]) -> Result<AnswerSoFar, ExchangeFault>
+fn take_piece(answer: HttpAnswer, piece: &[u8]) -> Result<AnswerSoFar, ExchangeFault>
     requires { (came : List ℕ) × IsReading answer came }
     ensures { (came : List ℕ) → IsReading answer came → TakesSo answer.limit (came ++ piece.now) result }
 {
@@ -66,7 +66,7 @@ fn received<S: ByteSource>(
         if count == 0 {
             return ended(answer);
         }
-        match taken(answer, &piece[..count]) {
+        match take_piece(answer, &piece[..count]) {
             Ok(AnswerSoFar::More(more)) => answer = more,
             Ok(AnswerSoFar::Whole(body)) => return Ok(body),
             Err(fault) => return Err(fault),

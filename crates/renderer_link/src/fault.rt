@@ -6,7 +6,7 @@ use std::io::ErrorKind;
 
 /// Why a render failed.
 #[derive(Clone, Copy, Debug, PartialEq, Eq)]
-pub enum RenderFault {
+pub enum RendererFault {
     /// No connection was had.
     Connect(ErrorKind),
     /// A write or a read failed.
@@ -21,23 +21,23 @@ pub enum RenderFault {
     OutOfMemory,
 }
 
-impl From<AllocError> for RenderFault {
-    fn from(_e: AllocError) -> RenderFault {
-        RenderFault::OutOfMemory
+impl From<AllocError> for RendererFault {
+    fn from(_e: AllocError) -> RendererFault {
+        RendererFault::OutOfMemory
     }
 }
 
 /// The fault in words.
-impl fmt::Display for RenderFault {
+impl fmt::Display for RendererFault {
     fn fmt<W: fmt::Write>(&self, f: &mut fmt::Formatter<W>) -> fmt::Result {
         match self {
-            RenderFault::Connect(kind) => write!(f, "no connection, {kind}"),
-            RenderFault::Stream(kind) => write!(f, "the connection failed, {kind}"),
-            RenderFault::Late => f.write_str("it took too long"),
-            RenderFault::Answer(AnswerFault::Status(code)) => write!(f, "status {code}"),
-            RenderFault::Answer(fault) => f.write_str(words_of(*fault)),
-            RenderFault::NoPixmap => f.write_str("no binary pixmap of the window's size"),
-            RenderFault::OutOfMemory => f.write_str("out of memory"),
+            RendererFault::Connect(kind) => write!(f, "no connection, {kind}"),
+            RendererFault::Stream(kind) => write!(f, "the connection failed, {kind}"),
+            RendererFault::Late => f.write_str("it took too long"),
+            RendererFault::Answer(AnswerFault::Status(code)) => write!(f, "status {code}"),
+            RendererFault::Answer(fault) => f.write_str(words_of(*fault)),
+            RendererFault::NoPixmap => f.write_str("no binary pixmap of the window's size"),
+            RendererFault::OutOfMemory => f.write_str("out of memory"),
         }
     }
 }

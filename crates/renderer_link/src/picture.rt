@@ -21,7 +21,7 @@ pub enum PictureFault {
 /// Sends a request over a link, and leaves in a raster the pixels of the pixmap of its size that is answered, in at most so many bytes with the
 /// head and the lines of chunks. In each other case the raster stays: where the link failed, what came is no answer that is taken, the
 /// body is no such pixmap, or memory runs out.
-pub fn pictured<L: Link>(
+pub fn request_picture<L: Link>(
     alloc: Global,
     link: &mut L,
     request: &[u8],

@@ -6,11 +6,11 @@ ghost use Rattle.raster_field.specs.Rasters.{IsWindowOf};
 
 use crate::deadline::Deadline;
 use crate::exchange::ExchangeFault;
-use crate::fault::RenderFault;
+use crate::fault::RendererFault;
 use crate::hosts::{HostFault, Hosts};
-use crate::picture::{PictureFault, pictured};
+use crate::picture::{PictureFault, request_picture};
 use crate::report::{FailedRender, Reports};
-use crate::timed_link::{TimedLink, connected};
+use crate::timed_link::{TimedLink, connect};
 use crate::turns::RenderTurns;
 use catalog::Catalogue;
 use http_source::RendererConfig;
@@ -46,12 +46,12 @@ fn limit_for(raster: &Raster) -> usize {
 /// Why there is no picture, and the body that is none.
 #[derive(Drop)]
 struct NoPicture {
-    fault: RenderFault,
+    fault: RendererFault,
     body: Option<Vec<u8>>,
 }
 
-impl From<RenderFault> for NoPicture {
-    fn from(fault: RenderFault) -> NoPicture {
+impl From<RendererFault> for NoPicture {
+    fn from(fault: RendererFault) -> NoPicture {
         NoPicture { fault, body: None }
     }
 }
@@ -60,11 +60,11 @@ impl From<RenderFault> for NoPicture {
 fn cause_of<R: Clock, S: Read + Write + OpenStream + Drop>(
     fault: ExchangeFault,
     link: &TimedLink<R, S>,
-) -> RenderFault {
+) -> RendererFault {
     match fault {
         ExchangeFault::Link => link.fault(),
-        ExchangeFault::Answer(fault) => RenderFault::Answer(fault),
-        ExchangeFault::OutOfMemory => RenderFault::OutOfMemory,
+        ExchangeFault::Answer(fault) => RendererFault::Answer(fault),
+        ExchangeFault::OutOfMemory => RendererFault::OutOfMemory,
     }
 }
 
@@ -99,11 +99,11 @@ impl Renderer {
     {
         let host = self.hosts.at(self.config.own_place(layer));
         let deadline = Deadline::after(rt, self.config.answer_seconds)?;
-        let mut link = connected(rt, host, self.config.connect_seconds, deadline)?;
-        match pictured(alloc, &mut link, request, limit_for(into), into) {
+        let mut link = connect(rt, host, self.config.connect_seconds, deadline)?;
+        match request_picture(alloc, &mut link, request, limit_for(into), into) {
             Ok(()) => Ok(()),
             Err(PictureFault::NoPixmap(body)) => Err(NoPicture {
-                fault: RenderFault::NoPixmap,
+                fault: RendererFault::NoPixmap,
                 body: Some(body),
             }),
             Err(PictureFault::Exchange(fault)) => Err(NoPicture::from(cause_of(fault, &link))),
@@ -115,7 +115,7 @@ impl Renderer {
         &self,
         rt: &R,
         layer: u32,
-        fault: RenderFault,
+        fault: RendererFault,
         request: &[u8],
         body: &[u8],
     ) {
@@ -140,7 +140,7 @@ impl Renderer {
         meta: &MetaKey,
         window: &Window,
         into: &mut Raster,
-    ) -> Result<(), RenderFault>
+    ) -> Result<(), RendererFault>
         requires valid { IsValid catalogue.now }
         requires meta { IsMeta catalogue.now meta.now }
         requires window { IsWindowOf catalogue.now meta.now window.now }

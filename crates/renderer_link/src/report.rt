@@ -1,5 +1,5 @@
 //! What is told of a failed render on standard error.
-use crate::fault::RenderFault;
+use crate::fault::RendererFault;
 use std::fmt;
 use std::io::Eprint;
 use std::str::from_utf8;
@@ -12,7 +12,7 @@ const SHOWN: usize = 200;
 /// A failed render in one line: the fault, what was asked for, and the front of a body that is no pixmap.
 #[derive(Clone, Copy)]
 pub struct FailedRender<'a> {
-    pub fault: RenderFault,
+    pub fault: RendererFault,
     pub authority: &'a [u8],
     pub request: &'a [u8],
     pub body: &'a [u8],

@@ -3,7 +3,7 @@ ghost use Rattle.std.specs.Prelude.{None, refl, IfOk, length, ◌≡◌, ◌≤�
 ghost use Rattle.http_wire.specs.Side.{side};
 
 use crate::deadline::Deadline;
-use crate::fault::RenderFault;
+use crate::fault::RendererFault;
 use crate::hosts::HostAddresses;
 use base::one_more;
 use http_wire::{ByteSink, ByteSource, Failed, Link};
@@ -19,35 +19,35 @@ pub struct TimedLink<'a, R: Clock, S: Read + Write + OpenStream + Drop> {
     stream: S,
     deadline: Deadline,
     /// Why the last read or write failed.
-    fault: Option<RenderFault>,
+    fault: Option<RendererFault>,
     read_faults: u64,
     write_faults: u64,
 }
 
 /// The fault that an error of a connection is.
-fn fault_of(error: &io::Error) -> RenderFault {
+fn fault_of(error: &io::Error) -> RendererFault {
     match error.kind() {
-        ErrorKind::WouldBlock | ErrorKind::TimedOut => RenderFault::Late,
-        kind => RenderFault::Stream(kind),
+        ErrorKind::WouldBlock | ErrorKind::TimedOut => RendererFault::Late,
+        kind => RendererFault::Stream(kind),
     }
 }
 
 /// The fault of a connection that wasn't made.
-fn unconnected(error: &io::Error) -> RenderFault {
+fn unconnected(error: &io::Error) -> RendererFault {
     match error.kind() {
-        ErrorKind::WouldBlock | ErrorKind::TimedOut => RenderFault::Late,
-        kind => RenderFault::Connect(kind),
+        ErrorKind::WouldBlock | ErrorKind::TimedOut => RendererFault::Late,
+        kind => RendererFault::Connect(kind),
     }
 }
 
 /// A connection to the first address of a host that takes one, within so many seconds for each, and by the deadline.
-pub fn connected<'a, R: Net + Clock>(
+pub fn connect<'a, R: Net + Clock>(
     rt: &'a R,
     host: &HostAddresses,
     seconds: u32,
     deadline: Deadline,
-) -> Result<TimedLink<'a, R, R::Stream>, RenderFault> {
-    let mut fault = RenderFault::Connect(ErrorKind::AddrNotAvailable);
+) -> Result<TimedLink<'a, R, R::Stream>, RendererFault> {
+    let mut fault = RendererFault::Connect(ErrorKind::AddrNotAvailable);
     for address in host.addresses() {
         let time = deadline
             .left(rt)?
@@ -71,8 +71,8 @@ pub fn connected<'a, R: Net + Clock>(
 
 impl<'a, R: Clock, S: Read + Write + OpenStream + Drop> TimedLink<'a, R, S> {
     /// Why the last read or write failed.
-    pub fn fault(&self) -> RenderFault {
-        self.fault.unwrap_or(RenderFault::Late)
+    pub fn fault(&self) -> RendererFault {
+        self.fault.unwrap_or(RendererFault::Late)
     }
 }
 
@@ -82,7 +82,7 @@ fn read_next<R: Clock, S: Read + OpenStream>(
     stream: &mut S,
     deadline: Deadline,
     into: &mut [u8],
-) -> Result<usize, RenderFault>
+) -> Result<usize, RendererFault>
     ensures count { IfOk result (λ n. n ≤ length into.old) }
     ensures len { length into.new ≡ length into.old }
 {
@@ -96,7 +96,7 @@ fn read_next<R: Clock, S: Read + OpenStream>(
             Err(error) => return Err(fault_of(&error)),
         }
     }
-    Err(RenderFault::Late)
+    Err(RendererFault::Late)
 }
 
 /// Writes what goes out of the bytes at once, by the deadline: one at least.
@@ -105,7 +105,7 @@ fn write_next<R: Clock, S: Write + OpenStream>(
     stream: &mut S,
     deadline: Deadline,
     bytes: &[u8],
-) -> Result<usize, RenderFault>
+) -> Result<usize, RendererFault>
     ensures { IfOk result (λ n. (1 ≤ n) × (n ≤ length bytes.now)) }
 {
     'waiting: for _ in 0..u64::MAX {
@@ -113,13 +113,13 @@ fn write_next<R: Clock, S: Write + OpenStream>(
             return Err(fault_of(&error));
         }
         match stream.write(bytes) {
-            Ok(0) => return Err(RenderFault::Stream(ErrorKind::WriteZero)),
+            Ok(0) => return Err(RendererFault::Stream(ErrorKind::WriteZero)),
             Ok(count) => return Ok(count),
             Err(error) if error.kind() == ErrorKind::Interrupted => {}
             Err(error) => return Err(fault_of(&error)),
         }
     }
-    Err(RenderFault::Late)
+    Err(RendererFault::Late)
 }
 
 impl<'a, R: Clock, S: Read + Write + OpenStream + Drop> ByteSource for TimedLink<'a, R, S> {

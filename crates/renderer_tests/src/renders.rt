@@ -5,7 +5,7 @@ use fixtures::FIRST;
 use http_answer::AnswerFault;
 use http_source::RendererConfig;
 use raster_field::{Raster, is_meta, window_at};
-use renderer_link::{RenderFault, Renderer};
+use renderer_link::{Renderer, RendererFault};
 use std::alloc::Global;
 use std::io::{Eprint, ErrorKind};
 use std::net::{Net, TcpListener, TcpStream};
@@ -36,7 +36,7 @@ fn render<R: Net + Clock + Wait + Eprint>(
     alloc: Global,
     port: u16,
     into: &mut Raster,
-) -> Result<Result<(), RenderFault>, Fail> {
+) -> Result<Result<(), RendererFault>, Fail> {
     let catalogue = Catalogue::demo(alloc)?;
     if !is_meta(&catalogue, &FIRST) {
         return Err("no metatile")?;
@@ -59,7 +59,7 @@ fn black(alloc: Global) -> Result<Raster, Fail> {
 struct Case {
     answer: &'static [u8],
     behind: Behind,
-    comes_to: Result<(), RenderFault>,
+    comes_to: Result<(), RendererFault>,
 }
 
 const PIXMAP: &[u8] = b"HTTP/1.1 200 OK\r\nContent-Length: 23\r\n\r\nP6\n2 2\n255\nabcdefghijkl";
@@ -89,36 +89,36 @@ const CASES: &[Case] = &[
     Case {
         answer: b"HTTP/1.1 200 OK\r\nContent-Length: 23\r\n\r\nP6\n2 2\n255\nabcdef",
         behind: Behind::Holds,
-        comes_to: Err(RenderFault::Late),
+        comes_to: Err(RendererFault::Late),
     },
     // It says nothing at all.
     Case {
         answer: b"",
         behind: Behind::Holds,
-        comes_to: Err(RenderFault::Late),
+        comes_to: Err(RendererFault::Late),
     },
     // It closes in the middle.
     Case {
         answer: b"HTTP/1.1 200 OK\r\nContent-Length: 23\r\n\r\nP6\n2 2\n255\nabcdef",
         behind: Behind::Closes,
-        comes_to: Err(RenderFault::Answer(AnswerFault::CutOff)),
+        comes_to: Err(RendererFault::Answer(AnswerFault::CutOff)),
     },
     Case {
         answer: b"HTTP/1.1 500 Internal Server Error\r\nContent-Length: 0\r\n\r\n",
         behind: Behind::Closes,
-        comes_to: Err(RenderFault::Answer(AnswerFault::Status(500))),
+        comes_to: Err(RendererFault::Answer(AnswerFault::Status(500))),
     },
     // MapServer answers its errors so.
     Case {
         answer: b"HTTP/1.1 200 OK\r\nContent-Length: 19\r\n\r\n<ServiceException/>",
         behind: Behind::Closes,
-        comes_to: Err(RenderFault::NoPixmap),
+        comes_to: Err(RendererFault::NoPixmap),
     },
     // A picture of another size.
     Case {
         answer: b"HTTP/1.1 200 OK\r\nContent-Length: 17\r\n\r\nP6\n2 1\n255\nabcdef",
         behind: Behind::Closes,
-        comes_to: Err(RenderFault::NoPixmap),
+        comes_to: Err(RendererFault::NoPixmap),
     },
 ];
 
@@ -181,6 +181,6 @@ fn nobody_answers_at_a_closed_port(rt: HostRuntime) -> Result<(), Fail> {
     let port = listen(&rt)?.local_addr()?.port();
     let mut raster = black(rt.alloc())?;
     let came = render(&rt, rt.alloc(), port, &mut raster)?;
-    assert!(rt; came == Err(RenderFault::Connect(ErrorKind::ConnectionRefused)));
+    assert!(rt; came == Err(RendererFault::Connect(ErrorKind::ConnectionRefused)));
     Ok(())
 }

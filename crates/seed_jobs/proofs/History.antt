@@ -17,12 +17,12 @@ use Rattle.turnstile.specs.declared.view.Made.{Made}
 use Rattle.turnstile.specs.Passes.{seen_by}
 use Rattle.job_board.specs.declared.posted.Posted.{Posted}
 use Rattle.job_board.specs.declared.posted.WatchedJob.{WatchedJob}
-use Rattle.job_board.specs.declared.shown.Command.{Command}
-use Rattle.job_board.specs.declared.shown.Command.TheVariants as command
-use Rattle.job_board.specs.declared.shown.Note.{Note}
-use Rattle.job_board.specs.declared.shown.Reply.{Reply}
-use Rattle.job_board.specs.declared.shown.Reply.TheVariants as reply
-use Rattle.job_board.specs.declared.shown.Shown.{Shown}
+use Rattle.job_board.specs.declared.shown.BoardCommand.{BoardCommand}
+use Rattle.job_board.specs.declared.shown.BoardCommand.TheVariants as command
+use Rattle.job_board.specs.declared.shown.BoardNote.{BoardNote}
+use Rattle.job_board.specs.declared.shown.BoardReply.{BoardReply}
+use Rattle.job_board.specs.declared.shown.BoardReply.TheVariants as reply
+use Rattle.job_board.specs.declared.shown.BoardShown.{BoardShown}
 use Rattle.job_board.specs.Boards.{BoardMayReply, Finishes, HasNumber, Looks, Stops, Submits, TakesNext, book_of, watch_of}
 use Rattle.job_board.specs.Calls.{BoardHolding, IsBoardTurn, MakesOne}
 use Rattle.job_board.proofs.Watches.{not_zero}
@@ -32,23 +32,23 @@ use Rattle.seed_jobs.specs.Turns.{AreBoardTurns, MakesTurns}
 
 -- TURNS, one after the other
 
-chained : (ts us : List (Made Note)) (seen mid left : FrontedBook) → AreBoardTurns seen ts mid → AreBoardTurns mid us left → AreBoardTurns seen (ts ++ us) left
+chained : (ts us : List (Made BoardNote)) (seen mid left : FrontedBook) → AreBoardTurns seen ts mid → AreBoardTurns mid us left → AreBoardTurns seen (ts ++ us) left
 chained [] us seen mid left h more = subst (λ (b : FrontedBook). AreBoardTurns b us left) h more
 chained (t ∷ ts) us seen mid left h more = (h.0, chained ts us (book_of t.note.after) mid left h.1 more)
 
-abbrev as_pass : BoardHolding → FrontedBook → List (Made Note) → BoardHolding
+abbrev as_pass : BoardHolding → FrontedBook → List (Made BoardNote) → BoardHolding
 as_pass p book made = record { table = p.table; charter = p.charter; told = p.told; book = book; made = made }
 
-pub made_too : (before mid after : BoardHolding) (ts us : List (Made Note)) → MakesTurns before mid ts → MakesTurns mid after us → MakesTurns before after (ts ++ us)
+pub made_too : (before mid after : BoardHolding) (ts us : List (Made BoardNote)) → MakesTurns before mid ts → MakesTurns mid after us → MakesTurns before after (ts ++ us)
 made_too before mid after ts us had more = record {
-  is = more.is ∙ ap (λ (p : BoardHolding). seen_by p after.book us) had.is ∙ ap (λ (made : List (Made Note)). as_pass before after.book made) (append_assoc before.made ts us);
+  is = more.is ∙ ap (λ (p : BoardHolding). seen_by p after.book us) had.is ∙ ap (λ (made : List (Made BoardNote)). as_pass before after.book made) (append_assoc before.made ts us);
   are_turns = chained ts us before.book mid.book after.book had.are_turns more.are_turns;
 }
 
 pub made_none : (p : BoardHolding) → MakesTurns p p []
 made_none p = record { is = ap (as_pass p p.book) (sym (append-nil p.made)); are_turns = refl }
 
-pub made_one : (before after : BoardHolding) (m : Made Note) → after ≡ seen_by before (book_of m.note.after) (m ∷ []) → IsBoardTurn before.book m → MakesTurns before after (m ∷ [])
+pub made_one : (before after : BoardHolding) (m : Made BoardNote) → after ≡ seen_by before (book_of m.note.after) (m ∷ []) → IsBoardTurn before.book m → MakesTurns before after (m ∷ [])
 made_one before after m is may =
     let there : after.book ≡ book_of m.note.after = ap (λ (p : BoardHolding). p.book) is in
     record { is = is ∙ ap (λ (b : FrontedBook). seen_by before b (m ∷ [])) (sym there); are_turns = (may, there) }
@@ -84,7 +84,7 @@ some_next c before after between p found is one out =
     record {
       round = record { look = one.turn; ending = out.ending };
       makes = made_too before.board between after.board (one.turn ∷ []) out.ending (made_one before.board between one.turn one.is one.may) out.makes;
-      does = subst (λ (r : Reply). DoesAfter c r out.ending before.idle after.idle) (sym (one.reply_is ∙ ap reply.Next is)) out.runs;
+      does = subst (λ (r : BoardReply). DoesAfter c r out.ending before.idle after.idle) (sym (one.reply_is ∙ ap reply.Next is)) out.runs;
       none = true_apart;
     }
 
@@ -94,56 +94,56 @@ none_next c before after found is one same =
     record {
       round = record { look = one.turn; ending = [] };
       makes = made_one before.board after.board one.turn one.is one.may;
-      does = subst (λ (r : Reply). DoesAfter c r [] before.idle after.idle) (sym (one.reply_is ∙ ap reply.Next is)) (refl, same);
+      does = subst (λ (r : BoardReply). DoesAfter c r [] before.idle after.idle) (sym (one.reply_is ∙ ap reply.Next is)) (refl, same);
       none = λ _. one.reply_is ∙ ap reply.Next is;
     }
 
 -- WHAT THE RUNNER KNOWS OF THE BOARD
 
 -- no turn takes a job from the list of all
-no_fewer : (b a : Shown) (does : Command) (r : Reply) → BoardMayReply b does r a → length b.watches ≤ length a.watches
+no_fewer : (b a : BoardShown) (does : BoardCommand) (r : BoardReply) → BoardMayReply b does r a → length b.watches ≤ length a.watches
 no_fewer b a (command.Submit job places) r may = submitted_more may.0 may.2
   where
     submitted_more : (n : Option ℕ) → Submits b job places n a → length b.watches ≤ length a.watches
-    submitted_more None row = omega (arith, ap (λ (x : Shown). length x.watches) row.1)
-    submitted_more (Some k) row = omega (arith, ap (λ (x : Shown). length x.watches) row.3.3, length-append b.watches (row.3.1 ∷ []))
+    submitted_more None row = omega (arith, ap (λ (x : BoardShown). length x.watches) row.1)
+    submitted_more (Some k) row = omega (arith, ap (λ (x : BoardShown). length x.watches) row.3.3, length-append b.watches (row.3.1 ∷ []))
 no_fewer b a command.Next r may = taken may.0 may.2
   where
     taken : (p : Option Posted) → TakesNext b p a → length b.watches ≤ length a.watches
-    taken None row = omega (arith, ap (λ (x : Shown). length x.watches) row.1)
-    taken (Some p) row = omega (arith, ap (λ (x : Shown). length x.watches) row.1)
+    taken None row = omega (arith, ap (λ (x : BoardShown). length x.watches) row.1)
+    taken (Some p) row = omega (arith, ap (λ (x : BoardShown). length x.watches) row.1)
 no_fewer b a (command.Look n) r may = looked may.0 may.2
   where
     looked : (p : Option JobStatus) → Looks b n p a → length b.watches ≤ length a.watches
-    looked None row = omega (arith, ap (λ (x : Shown). length x.watches) row.1)
-    looked (Some p) row = omega (arith, ap (λ (x : Shown). length x.watches) row.is, length-set b.watches (n - 1) row.left)
+    looked None row = omega (arith, ap (λ (x : BoardShown). length x.watches) row.1)
+    looked (Some p) row = omega (arith, ap (λ (x : BoardShown). length x.watches) row.is, length-set b.watches (n - 1) row.left)
 no_fewer b a (command.Stop n) r may = stopped may.0 may.2
   where
     stopped : (is : Bool) → Stops b n is a → length b.watches ≤ length a.watches
-    stopped false row = omega (arith, ap (λ (x : Shown). length x.watches) row.1)
-    stopped true row = omega (arith, ap (λ (x : Shown). length x.watches) row.is, length-set b.watches (n - 1) row.left)
+    stopped false row = omega (arith, ap (λ (x : BoardShown). length x.watches) row.1)
+    stopped true row = omega (arith, ap (λ (x : BoardShown). length x.watches) row.is, length-set b.watches (n - 1) row.left)
 no_fewer b a (command.Finish n job) r may = finished may.0 may.2
   where
     finished : (is : Bool) → Finishes b n job.watch is a → length b.watches ≤ length a.watches
-    finished false row = omega (arith, ap (λ (x : Shown). length x.watches) row.1)
-    finished true row = omega (arith, ap (λ (x : Shown). length x.watches) row.is, length-set b.watches (n - 1) row.left)
+    finished false row = omega (arith, ap (λ (x : BoardShown). length x.watches) row.1)
+    finished true row = omega (arith, ap (λ (x : BoardShown). length x.watches) row.is, length-set b.watches (n - 1) row.left)
 
-grown : (b a : Shown) → length b.watches ≤ length a.watches → AnswersForFronted (book_of a) (book_of b)
+grown : (b a : BoardShown) → length b.watches ≤ length a.watches → AnswersForFronted (book_of a) (book_of b)
 grown b a more = record { book = record { floor = more; cuts = λ k d within. absurd (omega (arith, within)) }; front = more }
 
 -- after a turn it knows of all jobs of which it knew
-pub turn_knows : (seen : FrontedBook) (m : Made Note) → IsBoardTurn seen m → AnswersForFronted (book_of m.note.after) seen
+pub turn_knows : (seen : FrontedBook) (m : Made BoardNote) → IsBoardTurn seen m → AnswersForFronted (book_of m.note.after) seen
 turn_knows seen m is =
     fronted_through (book_of m.note.after) (book_of m.note.before) seen (grown m.note.before m.note.after (no_fewer m.note.before m.note.after m.note.command m.note.reply is.reply))
     (subst (λ (b : FrontedBook). AnswersForFronted b seen) is.found is.answers)
 
-pub all_known : (seen : FrontedBook) (turns : List (Made Note)) (left : FrontedBook) → AreBoardTurns seen turns left → AnswersForFronted left seen
+pub all_known : (seen : FrontedBook) (turns : List (Made BoardNote)) (left : FrontedBook) → AreBoardTurns seen turns left → AnswersForFronted left seen
 all_known seen [] left same = subst (λ (b : FrontedBook). AnswersForFronted b seen) (sym same) (fronted_itself seen)
 all_known seen (t ∷ ts) left are = fronted_through left (book_of t.note.after) seen (all_known (book_of t.note.after) ts left are.1) (turn_knows seen t are.0)
 
-no_ending : (c : Catalogue) (r : Reply) (ending : List (Made Note)) (before after : List Idle) → r ≡ reply.Next None → DoesAfter c r ending before after → ending ≡ []
+no_ending : (c : Catalogue) (r : BoardReply) (ending : List (Made BoardNote)) (before after : List Idle) → r ≡ reply.Next None → DoesAfter c r ending before after → ending ≡ []
 no_ending c r ending before after is does =
-    let h : (ending ≡ []) × (after ≡ before) = subst (λ (x : Reply). DoesAfter c x ending before after) is does in
+    let h : (ending ≡ []) × (after ≡ before) = subst (λ (x : BoardReply). DoesAfter c x ending before after) is does in
     h.0
 
 pub all_run : (c : Catalogue) (before mid after : Standby) (is_run : Bool) → is_run ≡ false → HasRunJobs c before mid → RunsNext c mid after is_run → RunsAll c before after
@@ -155,7 +155,7 @@ all_run c before mid after is_run isnt had next =
       has_run = one_more c before mid after is_run had next;
       but_last = had.rounds;
       last_look = look;
-      rounds_are = ap (λ (ts : List (Made Note)). had.rounds ++ (record { look = look; ending = ts }) ∷ []) (no_ending c look.note.reply next.round.ending mid.idle after.idle none next.does);
+      rounds_are = ap (λ (ts : List (Made BoardNote)). had.rounds ++ (record { look = look; ending = ts }) ∷ []) (no_ending c look.note.reply next.round.ending mid.idle after.idle none next.does);
       found_none = none;
       found = fronted_through look.found mid.board.book before.board.book next.makes.are_turns.0.answers (all_known before.board.book (turns_of had.rounds) mid.board.book had.makes.are_turns);
     }
@@ -169,10 +169,10 @@ numbered before after p found is one =
     let a = one.turn.note.after in
     let does = one.command_is in
     let so = one.reply_is ∙ ap reply.Next is in
-    let h : BoardMayReply b command.Next (reply.Next (Some p)) a = subst (λ (z : Reply). BoardMayReply b command.Next z a) so (subst (λ (d : Command). BoardMayReply b d one.turn.note.reply a) does one.may.reply) in
+    let h : BoardMayReply b command.Next (reply.Next (Some p)) a = subst (λ (z : BoardReply). BoardMayReply b command.Next z a) so (subst (λ (d : BoardCommand). BoardMayReply b d one.turn.note.reply a) does one.may.reply) in
     let row : TakesNext b (Some p) a = subst (λ (x : Option Posted). TakesNext b x a) (same_next (Some p) h.0 h.1) h.2 in
     let front : after.book.front ≡ length a.watches = ap (λ (q : BoardHolding). q.book.front) one.is in
-    let same : length b.watches ≡ length a.watches = ap (λ (x : Shown). length x.watches) row.1 in
+    let same : length b.watches ≡ length a.watches = ap (λ (x : BoardShown). length x.watches) row.1 in
     let most = row.0.most in
     record { least = row.0.least; most = omega (arith, front, same, most) }
   where
@@ -185,7 +185,7 @@ finds_it before after p job true numbers one = refl
 finds_it before after p job false numbers one =
     let b = one.turn.note.before in
     let a = one.turn.note.after in
-    let h : BoardMayReply b (command.Finish p.number job) (reply.Finish false) a = subst (λ (z : Reply). BoardMayReply b (command.Finish p.number job) z a) one.reply_is (subst (λ (d : Command). BoardMayReply b d one.turn.note.reply a) one.command_is one.may.reply) in
+    let h : BoardMayReply b (command.Finish p.number job) (reply.Finish false) a = subst (λ (z : BoardReply). BoardMayReply b (command.Finish p.number job) z a) one.reply_is (subst (λ (d : BoardCommand). BoardMayReply b d one.turn.note.reply a) one.command_is one.may.reply) in
     let row : Finishes b p.number job.watch false a = subst (λ (x : Bool). Finishes b p.number job.watch x a) (same_finish false h.0 h.1) h.2 in
     let found : one.turn.found.front ≡ length b.watches = ap (λ (f : FrontedBook). f.front) one.may.found in
     let least = numbers.least in

@@ -4,10 +4,10 @@ use Rattle.catalog.specs.declared.catalogue.Catalogue.{Catalogue}
 use Rattle.job_places.specs.declared.tally.Tally.{Tally}
 use Rattle.job_board.specs.declared.posted.Posted.{Posted}
 use Rattle.job_board.specs.declared.posted.WatchedJob.{WatchedJob}
-use Rattle.job_board.specs.declared.shown.Command.TheVariants as command
-use Rattle.job_board.specs.declared.shown.Note.{Note}
-use Rattle.job_board.specs.declared.shown.Reply.{Reply}
-use Rattle.job_board.specs.declared.shown.Reply.TheVariants as reply
+use Rattle.job_board.specs.declared.shown.BoardCommand.TheVariants as command
+use Rattle.job_board.specs.declared.shown.BoardNote.{BoardNote}
+use Rattle.job_board.specs.declared.shown.BoardReply.{BoardReply}
+use Rattle.job_board.specs.declared.shown.BoardReply.TheVariants as reply
 use Rattle.job_board.specs.Boards.{IsOver}
 use Rattle.job_board.specs.Calls.{BoardHolding}
 use Rattle.job_board.specs.Hands.{Sheet, SheetHolding}
@@ -42,7 +42,7 @@ pub record IsJobRunByCrew (c : Catalogue) (job : Job) (sheet : Sheet) (hands : L
 
 -- The board was told of the end of this job, in a turn that found it there, by a watch of its sheet which has seen the end: so many places
 -- done, so many failed, and so many not kept. From then on it is over, with these numbers
-pub record IsToldOfEnd (p : Posted) (total : Tally) (turn : Made Note) : Type 0 where
+pub record IsToldOfEnd (p : Posted) (total : Tally) (turn : Made BoardNote) : Type 0 where
   pub job : WatchedJob
   pub does : turn.note.command ≡ command.Finish p.number job
   pub sees : SeesEnd p.sheet.value total.done total.failed total.unkept job.watch
@@ -50,28 +50,28 @@ pub record IsToldOfEnd (p : Posted) (total : Tally) (turn : Made Note) : Type 0 
   pub over : IsOver turn.note.after p.number total.done total.failed total.unkept
 
 -- a job that can be run was run, and one turn told the board of its end, with all that its crew came to; any other was left
-abbrev pub Runs : Catalogue → Posted → List (Made Note) → List Idle → List Idle → Type 0
+abbrev pub Runs : Catalogue → Posted → List (Made BoardNote) → List Idle → List Idle → Type 0
 Runs c p ending before after =
-    ((run : IsJobRunByCrew c p.job p.sheet.value p.hands.items before after) × (turn : Made Note) × (ending ≡ turn ∷ []) × IsToldOfEnd p (total_of run.tallies) turn) ⊎ (¬ (IsRunnable c p) × (ending ≡ []) × (after ≡ before))
+    ((run : IsJobRunByCrew c p.job p.sheet.value p.hands.items before after) × (turn : Made BoardNote) × (ending ≡ turn ∷ []) × IsToldOfEnd p (total_of run.tallies) turn) ⊎ (¬ (IsRunnable c p) × (ending ≡ []) × (after ≡ before))
 
 -- a posted job became this, and these turns were made of it
 pub record HasRunOut (c : Catalogue) (p : Posted) (before after : BoardHolding) (idle_before idle_after : List Idle) : Type 0 where
-  pub ending : List (Made Note)
+  pub ending : List (Made BoardNote)
   pub makes : MakesTurns before after ending
   pub runs : Runs c p ending idle_before idle_after
 
 -- a turn that looked for a job, and those that it led to
 pub record Round : Type 0 where
-  pub look : Made Note
-  pub ending : List (Made Note)
+  pub look : Made BoardNote
+  pub ending : List (Made BoardNote)
 
-abbrev pub turns_of : List Round → List (Made Note)
+abbrev pub turns_of : List Round → List (Made BoardNote)
 turns_of [] = []
 turns_of (r ∷ rs) = (r.look ∷ r.ending) ++ turns_of rs
 
 -- what a reply at the board brings about, with the turns that follow it: what a `next` posts is run, and where none waits nothing is done.
 -- There are no other replies
-abbrev pub DoesAfter : Catalogue → Reply → List (Made Note) → List Idle → List Idle → Type 0
+abbrev pub DoesAfter : Catalogue → BoardReply → List (Made BoardNote) → List Idle → List Idle → Type 0
 DoesAfter c (reply.Next (Some p)) ending before after = Runs c p ending before after
 DoesAfter c (reply.Next None) ending before after = (ending ≡ []) × (after ≡ before)
 DoesAfter c (reply.Submit n) ending before after = ⊥
@@ -101,7 +101,7 @@ pub record HasRunJobs (c : Catalogue) (before after : Standby) : Type 0 where
 pub record RunsAll (c : Catalogue) (before after : Standby) : Type 0 where
   pub has_run : HasRunJobs c before after
   pub but_last : List Round
-  pub last_look : Made Note
+  pub last_look : Made BoardNote
   pub rounds_are : has_run.rounds ≡ but_last ++ (record { look = last_look; ending = [] }) ∷ []
   pub found_none : last_look.note.reply ≡ reply.Next None
   pub found : AnswersForFronted last_look.found before.board.book

@@ -4,7 +4,7 @@ use Rattle.std.proofs.lemmas.List.Elements.{All-cons, All-head, All-nil, All-tai
 use Rattle.std.specs.List.{All}
 use Rattle.atomic_table.specs.Seated.{TableId}
 use Rattle.catalog.specs.declared.catalogue.Catalogue.{Catalogue}
-use Rattle.job_board.specs.declared.shown.Note.{Note}
+use Rattle.job_board.specs.declared.shown.BoardNote.{BoardNote}
 use Rattle.job_board.specs.Calls.{BoardHolding}
 use Rattle.seed_jobs.specs.Idles.{HasHeard, Idle, IsStandbyReady, MayJoin, Standby}
 use Rattle.truncation_list.specs.Books.{AnswersForFronted}
@@ -13,7 +13,7 @@ use Rattle.truncation_list.proofs.Answering.{fronted_itself, fronted_through}
 use Rattle.turnstile.specs.declared.view.Made.{Made}
 use Rattle.turnstile.specs.Passes.{seen_by}
 
-abbrev as_pass : BoardHolding → FrontedBook → List (Made Note) → BoardHolding
+abbrev as_pass : BoardHolding → FrontedBook → List (Made BoardNote) → BoardHolding
 as_pass p book made = record { table = p.table; charter = p.charter; told = p.told; book = book; made = made }
 
 -- nothing at first

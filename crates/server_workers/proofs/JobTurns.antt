@@ -8,9 +8,9 @@ use Rattle.atomic_table.specs.Seated.{TableId}
 use Rattle.cabinet_chest.specs.declared.shown.Note.{Note}
 use Rattle.cache_hall.specs.Turned.{HallPass}
 use Rattle.catalog.specs.declared.catalogue.Catalogue.{Catalogue}
-use Rattle.job_board.specs.declared.shown.Note as board
-use Rattle.job_board.specs.declared.shown.Reply.{Reply}
-use Rattle.job_board.specs.declared.shown.Reply.TheVariants as reply
+use Rattle.job_board.specs.declared.shown.BoardNote as board
+use Rattle.job_board.specs.declared.shown.BoardReply.{BoardReply}
+use Rattle.job_board.specs.declared.shown.BoardReply.TheVariants as reply
 use Rattle.job_places.specs.declared.tally.Tally.{Tally}
 use Rattle.job_places.specs.Visits.{Visit}
 use Rattle.seed_jobs.specs.Idles.{Idle, MayJoin, Standby, passes_of, without_hand}
@@ -84,7 +84,7 @@ run_keeps c job sheet hands before after r had =
     subst (All (IdleHas c)) (sym r.are)
     (All-append (IdleHas c) r.others (reverse crew_after) (front_of (IdleHas c) r.others (reverse crew) all) (all_reversed (IdleHas c) crew_after (All-from_recursion (IdleHas c) crew_after (to_idle c r.crew_after worked))))
 
-does_keep : (c : Catalogue) (r : Reply) (ending : List (Made board.Note)) (before after : List Idle) → DoesAfter c r ending before after → All (IdleHas c) before → All (IdleHas c) after
+does_keep : (c : Catalogue) (r : BoardReply) (ending : List (Made board.BoardNote)) (before after : List Idle) → DoesAfter c r ending before after → All (IdleHas c) before → All (IdleHas c) after
 does_keep c (reply.Next (Some p)) ending before after (inl run) had = run_keeps c p.job p.sheet.value p.hands.items before after run.0 had
 does_keep c (reply.Next (Some p)) ending before after (inr left) had = subst (All (IdleHas c)) (sym left.2) had
 does_keep c (reply.Next None) ending before after same had = subst (All (IdleHas c)) (sym same.1) had

@@ -3,18 +3,18 @@ use Rattle.std.proofs.Common.{arith, ◌≡◌, ◌∙◌, ℕ, suc, ◌+◌, �
 use Rattle.std.proofs.lemmas.List.Elements.{All-contains, Contains-append_cases}
 use Rattle.std.specs.List.{All, AllByRecursion, Contains}
 use Rattle.std.specs.Prelude.{◌⊎◌, MatchOption}
-use Rattle.cabinet_chest.specs.declared.shown.Note as hall
+use Rattle.cabinet_chest.specs.declared.shown.BoardNote as hall
 use Rattle.cache_hall.specs.Turned.{HallPass}
 use Rattle.catalog.specs.declared.catalogue.Catalogue.{Catalogue}
 use Rattle.hall_sessions.specs.Exchanges.{AreExchanges, HallExchange}
 use Rattle.hall_sessions.specs.Served.{IsJobMessageServed, IsMessageServed, IsOtherMessageServed}
 use Rattle.http_wire.specs.declared.message.Message.{Message}
-use Rattle.job_board.specs.declared.shown.Command.{Command}
-use Rattle.job_board.specs.declared.shown.Command.TheVariants as command
-use Rattle.job_board.specs.declared.shown.Note.{Note}
-use Rattle.job_board.specs.declared.shown.Reply.{Reply}
-use Rattle.job_board.specs.declared.shown.Reply.TheVariants as reply
-use Rattle.job_board.specs.declared.shown.Shown.{Shown}
+use Rattle.job_board.specs.declared.shown.BoardCommand.{BoardCommand}
+use Rattle.job_board.specs.declared.shown.BoardCommand.TheVariants as command
+use Rattle.job_board.specs.declared.shown.BoardNote.{BoardNote}
+use Rattle.job_board.specs.declared.shown.BoardReply.{BoardReply}
+use Rattle.job_board.specs.declared.shown.BoardReply.TheVariants as reply
+use Rattle.job_board.specs.declared.shown.BoardShown.{BoardShown}
 use Rattle.job_board.specs.Boards.{BoardMayReply, Submits, book_of}
 use Rattle.job_board.specs.Calls.{BoardHolding, MakesNone, MakesOne}
 use Rattle.job_requests.specs.declared.request.JobRequest.{JobRequest}
@@ -37,27 +37,27 @@ use Rattle.server_workers.proofs.Stopping.{stop_of}
 -- THE TURNS OF A PLACE
 
 -- the turn was answered by its row, and this book knows the jobs of the board that it left
-pub record IsKnown (seen : FrontedBook) (turn : Made Note) : Type 0 where
+pub record IsKnown (seen : FrontedBook) (turn : Made BoardNote) : Type 0 where
   pub answer : BoardMayReply turn.note.before turn.note.command turn.note.reply turn.note.after
   pub knows : AnswersForFronted seen (book_of turn.note.after)
 
 abbrev KnowsOwn : BoardHolding → Type 0
-KnowsOwn p = (turn : Made Note) → Contains p.made turn → IsKnown p.book turn
+KnowsOwn p = (turn : Made BoardNote) → Contains p.made turn → IsKnown p.book turn
 
-known_later : (seen later : FrontedBook) (turn : Made Note) → AnswersForFronted later seen → IsKnown seen turn → IsKnown later turn
+known_later : (seen later : FrontedBook) (turn : Made BoardNote) → AnswersForFronted later seen → IsKnown seen turn → IsKnown later turn
 known_later seen later turn more is = record { answer = is.answer; knows = fronted_through later seen (book_of turn.note.after) more is.knows }
 
 no_turns : (p : BoardHolding) → p.made ≡ [] → KnowsOwn p
-no_turns p none turn at = absurd (empty (subst (λ (ms : List (Made Note)). Contains ms turn) none at))
+no_turns p none turn at = absurd (empty (subst (λ (ms : List (Made BoardNote)). Contains ms turn) none at))
   where
-    empty : Contains {X = Made Note} [] turn → ⊥
+    empty : Contains {X = Made BoardNote} [] turn → ⊥
     empty (k, lt, _) = omega (arith, lt)
 
 none_more : (before after : BoardHolding) → MakesNone before after → KnowsOwn before → KnowsOwn after
 none_more before after makes had turn at =
-    known_later before.book after.book turn makes.answers (had turn (subst (λ (ms : List (Made Note)). Contains ms turn) (ap (λ (p : BoardHolding). p.made) makes.is ∙ append-nil before.made) at))
+    known_later before.book after.book turn makes.answers (had turn (subst (λ (ms : List (Made BoardNote)). Contains ms turn) (ap (λ (p : BoardHolding). p.made) makes.is ∙ append-nil before.made) at))
 
-one_more : (before after : BoardHolding) (does : Command) (answer : Reply) → MakesOne before after does answer → KnowsOwn before → KnowsOwn after
+one_more : (before after : BoardHolding) (does : BoardCommand) (answer : BoardReply) → MakesOne before after does answer → KnowsOwn before → KnowsOwn after
 one_more before after does answer one had turn at =
     let left : FrontedBook = book_of one.turn.note.after in
     let there : after.book ≡ left = ap (λ (p : BoardHolding). p.book) one.is in
@@ -66,7 +66,7 @@ one_more before after does answer one had turn at =
     (⊎_elim
     (λ (old : Contains before.made turn). known_later before.book left turn (turn_knows before.book one.turn one.may) (had turn old))
     (λ (new : Contains (one.turn ∷ []) turn). subst (IsKnown left) (the_one one.turn turn new) mine)
-    (Contains-append_cases before.made (one.turn ∷ []) turn (subst (λ (ms : List (Made Note)). Contains ms turn) (ap (λ (p : BoardHolding). p.made) one.is) at)))
+    (Contains-append_cases before.made (one.turn ∷ []) turn (subst (λ (ms : List (Made BoardNote)). Contains ms turn) (ap (λ (p : BoardHolding). p.made) one.is) at)))
 
 same_place : (before after : BoardHolding) → after ≡ before → KnowsOwn before → KnowsOwn after
 same_place before after same had = subst KnowsOwn (sym same) had
@@ -100,17 +100,17 @@ after_request c request.Statuses before after o all had = after_statuses all.fou
 after_request c request.NotFound before after o none had = same_place before after none.0 had
 after_request c request.WrongMethod before after o none had = same_place before after none.0 had
 
-after_job_message : (c : Catalogue) (r : JobRequest) (gained : List (Made hall.Note)) (before after : BoardHolding) (o : Outcome) → IsJobMessageServed c r gained before after o → KnowsOwn before → KnowsOwn after
+after_job_message : (c : Catalogue) (r : JobRequest) (gained : List (Made hall.BoardNote)) (before after : BoardHolding) (o : Outcome) → IsJobMessageServed c r gained before after o → KnowsOwn before → KnowsOwn after
 after_job_message c r gained before after o (inl served) had = after_request c r before after o served.1 had
 after_job_message c r gained before after o (inr unread) had = same_place before after unread.1 had
 
 -- one for jobs, or another one
-after_either : (c : Catalogue) (r : Option JobRequest) (gained : List (Made hall.Note)) (before after : BoardHolding) (o : Outcome) (Other Unasked : Type 0) → MatchOption r (Other × (after ≡ before)) (λ j. IsJobMessageServed c j gained before after o × Unasked) → KnowsOwn before
+after_either : (c : Catalogue) (r : Option JobRequest) (gained : List (Made hall.BoardNote)) (before after : BoardHolding) (o : Outcome) (Other Unasked : Type 0) → MatchOption r (Other × (after ≡ before)) (λ j. IsJobMessageServed c j gained before after o × Unasked) → KnowsOwn before
     → KnowsOwn after
 after_either c None gained before after o Other Unasked served had = same_place before after served.1 had
 after_either c (Some r) gained before after o Other Unasked served had = after_job_message c r gained before after o served.0 had
 
-after_message : (c : Catalogue) (told : Bool) (seen : FrontedBook) (m : Message) (asked : Option Request) (gained : List (Made hall.Note)) (before after : BoardHolding) (o : Outcome) → IsMessageServed c told seen m asked gained before after o → KnowsOwn before → KnowsOwn after
+after_message : (c : Catalogue) (told : Bool) (seen : FrontedBook) (m : Message) (asked : Option Request) (gained : List (Made hall.BoardNote)) (before after : BoardHolding) (o : Outcome) → IsMessageServed c told seen m asked gained before after o → KnowsOwn before → KnowsOwn after
 after_message c told seen m asked gained before after o served had = after_either c (request_for c m) gained before after o (IsOtherMessageServed c told seen m asked gained o) (asked ≡ None) served had
 
 -- SESSIONS
@@ -146,16 +146,16 @@ pub record IsOfKnown (seen : FrontedBook) (n : ℕ) : Type 0 where
 same_submit : (x y : Option ℕ) → reply.Submit x ≡ reply.Submit y → y ≡ x
 same_submit x y e = cc
 
-submitted : (seen : FrontedBook) (turn : Made Note) (n : ℕ) → IsKnown seen turn → IsSubmit n turn → IsOfKnown seen n
+submitted : (seen : FrontedBook) (turn : Made BoardNote) (n : ℕ) → IsKnown seen turn → IsSubmit n turn → IsOfKnown seen n
 submitted seen turn n is submit =
     let b = turn.note.before in
     let a = turn.note.after in
     let may : BoardMayReply b (command.Submit submit.job submit.places) (reply.Submit (Some n)) a =
-    subst (λ (r : Reply). BoardMayReply b (command.Submit submit.job submit.places) r a) submit.gets (subst (λ (d : Command). BoardMayReply b d turn.note.reply a) submit.does is.answer) in
+    subst (λ (r : BoardReply). BoardMayReply b (command.Submit submit.job submit.places) r a) submit.gets (subst (λ (d : BoardCommand). BoardMayReply b d turn.note.reply a) submit.does is.answer) in
     let row : Submits b submit.job submit.places (Some n) a = subst (λ (x : Option ℕ). Submits b submit.job submit.places x a) (same_submit (Some n) may.0 may.1) may.2 in
     let room = row.1 in
     let next = row.2 in
-    let left : length a.watches ≡ length (b.watches ++ row.3.1 ∷ []) = ap (λ (x : Shown). length x.watches) row.3.3 in
+    let left : length a.watches ≡ length (b.watches ++ row.3.1 ∷ []) = ap (λ (x : BoardShown). length x.watches) row.3.3 in
     let front = is.knows.front in
     record { least = omega (arith, next); most = omega (arith, room, next); known = omega (arith, next, left, front, length-append b.watches (row.3.1 ∷ [])) }
 

@@ -2,9 +2,9 @@
 use Rattle.std.specs.Prelude.{All, ℕ, ◌≡◌, ◌+◌, true, List, [], ◌∷◌, length, Some, ⊤}
 use Rattle.std.specs.List.{Contains}
 use Rattle.atomic_table.specs.Seated.{TableId}
-use Rattle.job_board.specs.declared.shown.Command.TheVariants as command
-use Rattle.job_board.specs.declared.shown.Note.{Note}
-use Rattle.job_board.specs.declared.shown.Reply.TheVariants as reply
+use Rattle.job_board.specs.declared.shown.BoardCommand.TheVariants as command
+use Rattle.job_board.specs.declared.shown.BoardNote.{BoardNote}
+use Rattle.job_board.specs.declared.shown.BoardReply.TheVariants as reply
 use Rattle.job_board.specs.Calls.{BoardHolding, IsFirstBoardPass}
 use Rattle.seed_jobs.specs.Turns.{MakesTurns}
 use Rattle.job_forms.specs.declared.job.Job.{Job}
@@ -15,13 +15,13 @@ use Rattle.turnstile.specs.Passes.{seen_by}
 -- THE TURNS THAT CANCEL
 
 -- turns that cancel jobs, one after the other, from this number on
-abbrev pub StopFrom : ℕ → List (Made Note) → Type 0
+abbrev pub StopFrom : ℕ → List (Made BoardNote) → Type 0
 StopFrom n [] = ⊤
 StopFrom n (m ∷ ms) = (m.note.command ≡ command.Stop n) × StopFrom (n + 1) ms
 
 -- a place at the board was used to cancel the jobs from 1 to this number, one turn each, and for nothing else
 pub record HasStoppedTo (most : ℕ) (before after : BoardHolding) : Type 0 where
-  pub turns : List (Made Note)
+  pub turns : List (Made BoardNote)
   pub makes : MakesTurns before after turns
   pub each : StopFrom 1 turns
   pub count : length turns ≡ most
@@ -38,20 +38,20 @@ pub record HasCancelledOn (before : BoardHolding) : Type 0 where
 -- WHAT THEY COME TO
 
 -- the turn submitted a job, which got this number
-pub record IsSubmit (number : ℕ) (turn : Made Note) : Type 0 where
+pub record IsSubmit (number : ℕ) (turn : Made BoardNote) : Type 0 where
   pub job : Job
   pub places : ℕ
   pub does : turn.note.command ≡ command.Submit job places
   pub gets : turn.note.reply ≡ reply.Submit (Some number)
 
 -- the turn cancelled the job of this number
-pub record IsCancel (number : ℕ) (turn : Made Note) : Type 0 where
+pub record IsCancel (number : ℕ) (turn : Made BoardNote) : Type 0 where
   pub does : turn.note.command ≡ command.Stop number
   pub finds : turn.note.reply ≡ reply.Stop true
 
 -- each job that was submitted from one of these places was cancelled in one of these turns
-abbrev pub AreCancelled : List BoardHolding → List (Made Note) → Type 0
-AreCancelled places turns = (p : BoardHolding) → Contains places p → (submit : Made Note) → Contains p.made submit → (n : ℕ) → IsSubmit n submit → (cancel : Made Note) × Contains turns cancel × IsCancel n cancel
+abbrev pub AreCancelled : List BoardHolding → List (Made BoardNote) → Type 0
+AreCancelled places turns = (p : BoardHolding) → Contains places p → (submit : Made BoardNote) → Contains p.made submit → (n : ℕ) → IsSubmit n submit → (cancel : Made BoardNote) × Contains turns cancel × IsCancel n cancel
 
 -- A place at this board, which had made nothing, was used to cancel jobs and for nothing else. At the end it heard of all jobs that these
 -- places know, and from then on each job was cancelled that had been submitted from one of them.

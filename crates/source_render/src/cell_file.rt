@@ -15,7 +15,7 @@ const CHUNK: usize = 4096;
 
 /// How many cells a file has in a row, and how many rows.
 #[derive(Clone, Copy)]
-pub struct Grid {
+pub struct CellGrid {
     pub width: u32,
     pub height: u32,
 }
@@ -30,9 +30,9 @@ fn number_at(head: &[u8; 16], at: usize) -> u32
 }
 
 /// The grid of a file of this length with these first bytes; `None` where the file is of another form.
-fn grid_of(head: &[u8; 16], size: u64) -> Option<Grid>
+fn grid_of(head: &[u8; 16], size: u64) -> Option<CellGrid>
     ensures form { IfSome result (λ g. IsGridFile g head.now size) }
-    ensures other { (g : Grid) → IsGridFile g head.now size → IsSome result }
+    ensures other { (g : CellGrid) → IsGridFile g head.now size → IsSome result }
 {
     let begins = &head[..8] == MAGIC.as_slice();
     if !begins {
@@ -46,11 +46,11 @@ fn grid_of(head: &[u8; 16], size: u64) -> Option<Grid>
     if size != 16 + u64::from(width) * u64::from(height) {
         return None;
     }
-    Some(Grid { width, height })
+    Some(CellGrid { width, height })
 }
 
 /// Reads the grid of a file; `None` where the file can't be read or is of another form.
-pub fn read_grid(file: &File) -> Option<Grid>
+pub fn read_grid(file: &File) -> Option<CellGrid>
     ensures width { IfSome result (λ g. 1 ≤ g.width) }
     ensures height { IfSome result (λ g. 1 ≤ g.height) }
     ensures size { IfSome result (λ g. 16 + g.width * g.height < 2 ^ 64) }
@@ -95,7 +95,7 @@ impl Chunk {
 #[tactic(auto, using(crate::proofs::Cells::cell_inside))]
 pub fn read_row(
     file: &File,
-    grid: Grid,
+    grid: CellGrid,
     row: u32,
     columns: &[u32; MOST],
     count: u32,

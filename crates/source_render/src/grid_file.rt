@@ -5,7 +5,7 @@ ghost use Rattle.matrix_geometry.specs.Limits.{IsWithinLimits};
 ghost use Rattle.raster_field.specs.Blocks.{IsMeta};
 ghost use Rattle.raster_field.specs.Rasters.{HasSize, IsWhole, IsWindowOf};
 
-use crate::cell_file::{Grid, read_grid, read_row};
+use crate::cell_file::{CellGrid, read_grid, read_row};
 use crate::numbered::Numbered;
 use crate::painter::{BYTES, MOST, put_row};
 use crate::palette::{palette_of, put_pixel};
@@ -93,7 +93,7 @@ fn put_values(palette: &[Colour; 256], values: &[u8; MOST], into: &mut [u8])
 /// Paints the rows of a window; `None` where the file can't be read.
 fn paint_rows(
     file: &File,
-    grid: Grid,
+    grid: CellGrid,
     matrix: &Matrix,
     layer: &Layer,
     palette: &[Colour; 256],

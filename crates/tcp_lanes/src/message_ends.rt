@@ -6,7 +6,7 @@ ghost use Rattle.http_wire.specs.Messages.{front};
 ghost use Rattle.httparse.specs.Spans.{IsRequestOf, IsRequestWithin};
 ghost use Rattle.tcp_lanes.specs.Ends.{MessageEndsAs};
 
-use http_wire::{Found, front_of, judge, step};
+use http_wire::{LookOutcome, front_of, judge, step};
 use httparse::spans::{EMPTY_HEADER_SPAN, HeaderSpan, RequestSpans};
 
 /// Where the message at the front ends.
@@ -50,8 +50,8 @@ pub fn message_end(held: &[u8]) -> MessageEnd
     let mut headers = [EMPTY_HEADER_SPAN; 64];
     match step(held, &mut headers) {
         None => MessageEnd::Headless,
-        Some(Found::Stopped(_)) => MessageEnd::Hopeless,
-        Some(Found::Head(spans)) => end_behind(held, &headers, &spans),
+        Some(LookOutcome::Stopped(_)) => MessageEnd::Hopeless,
+        Some(LookOutcome::Head(spans)) => end_behind(held, &headers, &spans),
     }
 }
 

@@ -54,7 +54,11 @@ pub fn bare<'a>(status: u16) -> LentResponse<'a>
 }
 
 /// A tile, or a picture of it, with these headers.
-fn pictured<'a>(media_type: MediaType, headers: BodyHeaders<'a>, body: Body<'a>) -> LentResponse<'a>
+fn picture_response<'a>(
+    media_type: MediaType,
+    headers: BodyHeaders<'a>,
+    body: Body<'a>,
+) -> LentResponse<'a>
     ensures { shown_parts result ≡ pictured (media_type_name media_type) (headers_text headers.entry) (body_text body.entry) }
 {
     LentResponse {
@@ -75,8 +79,8 @@ fn png<'a>(
     ensures { IfOk result (λ p. shown_parts p ≡ png_parts (headers_text headers.entry) text.now (png_of_tile text.now)) }
 {
     match png_of_tile(alloc, tables, text)? {
-        Some(png) => Ok(pictured(MediaType::Png, headers, Body::Made(png))),
-        None => Ok(pictured(MediaType::Ppm, headers, Body::Borrowed(text))),
+        Some(png) => Ok(picture_response(MediaType::Png, headers, Body::Made(png))),
+        None => Ok(picture_response(MediaType::Ppm, headers, Body::Borrowed(text))),
     }
 }
 
@@ -92,7 +96,7 @@ fn tile<'a>(
     ensures made { OnErr result (is_respelt spelling ≡ true) }
 {
     match spelling {
-        Spelling::Ppm => Ok(pictured(MediaType::Ppm, headers, Body::Borrowed(text))),
+        Spelling::Ppm => Ok(picture_response(MediaType::Ppm, headers, Body::Borrowed(text))),
         Spelling::Png => png(alloc, tables, headers, text),
     }
 }

@@ -20,7 +20,7 @@ fn link_for<R: Net<Listener = TcpListener, Stream = TcpStream>>(
 ) -> io::Result<StreamLink> {
     match word {
         Some(LinkWord::Lead(port)) => StreamLink::accepted(rt, port),
-        Some(LinkWord::Follow(port)) => StreamLink::connected(rt, port),
+        Some(LinkWord::Follow(port)) => StreamLink::connect(rt, port),
         None => Ok(StreamLink::without_bytes()),
     }
 }

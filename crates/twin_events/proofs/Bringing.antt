@@ -18,8 +18,8 @@ use Rattle.outbox.specs.Posts.{Outgoing}
 use Rattle.served_covers.specs.OfCatalogue.{IsCoverOf}
 use Rattle.tile_service.specs.Session.{IsAtRest}
 use Rattle.truncation_list.specs.declared.cover.Cover.{Cover}
-use Rattle.twin_events.specs.declared.carried.Carried.{Carried}
-use Rattle.twin_events.specs.declared.carried.Carried.TheVariants as carried
+use Rattle.twin_events.specs.declared.carried.CarriedPacket.{CarriedPacket}
+use Rattle.twin_events.specs.declared.carried.CarriedPacket.TheVariants as carried
 use Rattle.twin_events.specs.Carries.{Carries, Counts, FindsAt, HearsAs, IsHeardAt, IsStarvedAt, IsThere, RunsOut, TakesAs, follower}
 use Rattle.twin_events.specs.Twins.{IsTwinReady, LeadsBy, TwinStanding, standing}
 use Rattle.twin_events.proofs.Leading.{arrived_leads, heard_leads, starved_leads}
@@ -36,7 +36,7 @@ found_as sent seen place p q same is found = (found.0, subst (λ (x : List Packe
 
 -- A `Seen`
 
-pub hears_row : (s : TwinStanding) (n : Counts) (place at i : ℕ) (out : Outgoing) (reply : Carried) → IsThere s.sent place at (packets.Seen i) → HearsAs s.out i reply out → Carries s n place (Some reply) (standing out s.stand s.cabinet s.sent) n
+pub hears_row : (s : TwinStanding) (n : Counts) (place at i : ℕ) (out : Outgoing) (reply : CarriedPacket) → IsThere s.sent place at (packets.Seen i) → HearsAs s.out i reply out → Carries s n place (Some reply) (standing out s.stand s.cabinet s.sent) n
 hears_row s n place at i out (carried.Taken number reply seen) there h = absurd h
 hears_row s n place at i out (carried.Heard j) there h =
     subst (λ (x : ℕ). IsHeardAt s n place x true (standing out s.stand s.cabinet s.sent) n) (sym h.0)
@@ -54,7 +54,7 @@ module _ (c : Catalogue) (s : TwinStanding) (before : Counts) (place at : ℕ) (
   abbrev behind : TwinStanding
   behind = standing s.out stand cabinet then_sent
 
-  pub takes_row : (reply : Carried) → TakesAs (follower s before) change s.sent (Ok reply) (pair_of stand cabinet after) then_sent → Carries s before place (Some reply) behind after
+  pub takes_row : (reply : CarriedPacket) → TakesAs (follower s before) change s.sent (Ok reply) (pair_of stand cabinet after) then_sent → Carries s before place (Some reply) behind after
   takes_row (carried.Taken number reply seen) h = record {
     at = at;
     change = change;
@@ -94,7 +94,7 @@ module _ (c : Catalogue) (s : TwinStanding) (before : Counts) (place at : ℕ) (
     | inr one ↦ inr (starved one h.0 h.2)
   ]
 
-  pub takes_ready : (result : Result Carried AllocError) → TakesAs (follower s before) change s.sent result (pair_of stand cabinet after) then_sent → cabinet.catalogue ≡ s.cabinet.catalogue → IsTwinReady c behind
+  pub takes_ready : (result : Result CarriedPacket AllocError) → TakesAs (follower s before) change s.sent result (pair_of stand cabinet after) then_sent → cabinet.catalogue ≡ s.cabinet.catalogue → IsTwinReady c behind
   takes_ready (Ok (carried.Taken number reply seen)) h same = record {
     valid = ready.valid;
     same = same ∙ ready.same;

@@ -9,8 +9,8 @@ use Rattle.cut_follower.specs.Lossy.{arrived, heard, packet_of, ran_out}
 use Rattle.outbox.specs.declared.packet.Packet.{Packet}
 use Rattle.outbox.specs.declared.packet.Packet.TheVariants as packets
 use Rattle.outbox.specs.Posts.{Hears, Outgoing}
-use Rattle.twin_events.specs.declared.carried.Carried.{Carried}
-use Rattle.twin_events.specs.declared.carried.Carried.TheVariants as carried
+use Rattle.twin_events.specs.declared.carried.CarriedPacket.{CarriedPacket}
+use Rattle.twin_events.specs.declared.carried.CarriedPacket.TheVariants as carried
 use Rattle.twin_events.specs.Twins.{LeadsBy, TwinStanding}
 
 -- how often the disk of the marks has failed, and that of the cabinet
@@ -57,7 +57,7 @@ pub record IsHeardAt (s : TwinStanding) (before : Counts) (place i : ℕ) (news 
   pub leads : LeadsBy (heard at i news ∷ []) s t
 
 -- THE ROWS
-abbrev pub Carries : TwinStanding → Counts → ℕ → Option Carried → TwinStanding → Counts → Type 0
+abbrev pub Carries : TwinStanding → Counts → ℕ → Option CarriedPacket → TwinStanding → Counts → Type 0
 Carries s before place None t after = IsOutside place s.sent × (t ≡ s) × (after ≡ before)
 Carries s before place (Some (carried.Taken number reply seen)) t after = IsTakenAt s before place number reply seen t after
 Carries s before place (Some (carried.Heard i)) t after = IsHeardAt s before place i true t after
@@ -77,13 +77,13 @@ RunsOut s place t = (t ≡ s) ⊎ IsStarvedAt s place t
 -- A TIE between the code and these definitions: the promise can be read without it.
 
 -- what is heard of a `Seen`
-abbrev pub HearsAs : Outgoing → ℕ → Carried → Outgoing → Type 0
+abbrev pub HearsAs : Outgoing → ℕ → CarriedPacket → Outgoing → Type 0
 HearsAs s i (carried.Taken number reply seen) t = ⊥
 HearsAs s i (carried.Heard j) t = (j ≡ i) × Hears s (packets.Seen i) true t
 HearsAs s i carried.Ignored t = Hears s (packets.Seen i) false t
 
 -- what a change came to at the follower, and what had been sent before it and then
-abbrev pub TakesAs : Pair → Change → List Packet → Result Carried AllocError → Pair → List Packet → Type 0
+abbrev pub TakesAs : Pair → Change → List Packet → Result CarriedPacket AllocError → Pair → List Packet → Type 0
 TakesAs s change sent (Ok (carried.Taken number reply seen)) t then_sent =
     (number ≡ change.number) × Applies s change reply t × (then_sent ≡ sent ++ packets.Seen (last_of t.stand.mark) ∷ []) × (seen ≡ length then_sent)
 TakesAs s change sent (Ok (carried.Heard i)) t then_sent = ⊥

@@ -3,7 +3,7 @@ use change_feed::Applied;
 
 /// What became of a packet that was carried.
 #[derive(Clone, Copy, PartialEq, Eq)]
-pub enum Carried {
+pub enum CarriedPacket {
     /// It is the change of this number, which came to the follower; what became of it, and the place, from 1, of the `Seen` that the
     /// follower sent behind it.
     Taken(u64, Applied, u64),

@@ -10,7 +10,7 @@ ghost use Rattle.served_covers.specs.OfCatalogue.{IsCoverOf};
 ghost use Rattle.twin_events.specs.Carries.{Carries, FindsAt, HearsAs, RunsOut, TakesAs, counts};
 ghost use Rattle.twin_events.specs.Twins.{IsTwinReady, standing};
 
-use crate::carried::Carried;
+use crate::carried::CarriedPacket;
 use crate::twin::Twin;
 use cabinet::Keeper;
 use cache_core::laws_of_lasting;
@@ -35,15 +35,15 @@ fn packet_at(sent: &[Packet], place: u64) -> Option<Packet>
 }
 
 /// The leader hears that all changes up to this number are seen.
-fn hear<N: Disk>(outbox: &mut Outbox<N>, number: u64) -> Carried
+fn hear<N: Disk>(outbox: &mut Outbox<N>, number: u64) -> CarriedPacket
     ensures hears { HearsAs outbox.old.out number result outbox.new.out }
     ensures catalogue { outbox.new.catalogue ≡ outbox.old.catalogue }
     ensures file { outbox.new.file ≡ outbox.old.file }
 {
     if outbox.heard(&Packet::Seen(number)) {
-        Carried::Heard(number)
+        CarriedPacket::Heard(number)
     } else {
-        Carried::Ignored
+        CarriedPacket::Ignored
     }
 }
 
@@ -55,7 +55,7 @@ fn take_change<K: Keeper, M: Disk>(
     sent: &mut Vec<Packet>,
     number: u64,
     cover: &Cover,
-) -> Result<Carried, AllocError>
+) -> Result<CarriedPacket, AllocError>
     requires cover { IsCoverOf (K.state cabinet.old).catalogue cover.now }
     ensures takes { TakesAs
         (record { stand = feed.old.stand; faults = M.faults feed.old.file.disk; cabinet = K.state cabinet.old; cabinet_faults = K.faults cabinet.old })
@@ -79,7 +79,7 @@ fn take_change<K: Keeper, M: Disk>(
         Ok(Taken::NotAChange) => unreachable!(),
         Ok(Taken::Answer(reply, seen)) => {
             sent.push_reserved(seen);
-            Ok(Carried::Taken(number, reply, sent.len() as u64))
+            Ok(CarriedPacket::Taken(number, reply, sent.len() as u64))
         }
     }
 }
@@ -91,7 +91,7 @@ impl<K: Keeper, M: Disk, N: Disk> Twin<K, M, N> {
     ///
     /// At every moment each image of the marks ends in a mark of the feed before the call or after it. `AllocError` where memory runs out:
     /// nothing has then changed, or memory ran out in the follower's call for the change.
-    pub fn carry(&mut self, alloc: Global, place: u64) -> Result<Option<Carried>, AllocError>
+    pub fn carry(&mut self, alloc: Global, place: u64) -> Result<Option<CarriedPacket>, AllocError>
         requires ready { IsTwinReady self.old.outbox.catalogue (standing self.old.outbox.out self.old.feed.stand (K.state self.old.cabinet) self.old.sent.items) }
         ensures carries { IfOk result (λ found. Carries
             (standing self.old.outbox.out self.old.feed.stand (K.state self.old.cabinet) self.old.sent.items) (counts (M.faults self.old.feed.file.disk) (K.faults self.old.cabinet))

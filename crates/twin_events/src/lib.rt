@@ -17,6 +17,6 @@ mod posting;
 mod sending;
 mod twin;
 
-pub use carried::Carried;
+pub use carried::CarriedPacket;
 pub use got::Got;
 pub use twin::Twin;

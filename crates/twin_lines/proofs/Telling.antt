@@ -12,7 +12,7 @@ use Rattle.disk_model.specs.Moments.{leaves_none}
 use Rattle.sessions.specs.Outside.{OutputChange}
 use Rattle.matrix_geometry.specs.declared.address.Address.{Address}
 use Rattle.outbox.specs.Posts as outboxes
-use Rattle.twin_events.specs.declared.carried.Carried.{Carried}
+use Rattle.twin_events.specs.declared.carried.CarriedPacket.{CarriedPacket}
 use Rattle.twin_events.specs.Carries as carries
 use Rattle.twin_events.specs.Gets.{Failures, RunsOut, events_of}
 use Rattle.twin_events.specs.Twins.{IsAt, TwinStanding}
@@ -39,8 +39,8 @@ pub reads_as : (c : Catalogue) (source : Option ℕ) (outbox : DiskPassage) (giv
 reads_as c source outbox given read n o Stays s t end is runs = subst (λ (x : TwinOrder). RunsOrder c source outbox (Some x) n o Stays s t end) (sym is) runs
 
 -- what was found at a place
-pub carries_some : (s : TwinStanding) (before : carries.Counts) (place : ℕ) (found : Option Carried) (arrival : Carried) (t : TwinStanding) (after : carries.Counts) → found ≡ Some arrival → carries.Carries s before place found t after → carries.Carries s before place (Some arrival) t after
-carries_some s before place found arrival t after is row = subst (λ (x : Option Carried). carries.Carries s before place x t after) is row
+pub carries_some : (s : TwinStanding) (before : carries.Counts) (place : ℕ) (found : Option CarriedPacket) (arrival : CarriedPacket) (t : TwinStanding) (after : carries.Counts) → found ≡ Some arrival → carries.Carries s before place found t after → carries.Carries s before place (Some arrival) t after
+carries_some s before place found arrival t after is row = subst (λ (x : Option CarriedPacket). carries.Carries s before place x t after) is row
 
 -- a disk that stays leaves what it did
 pub leaves_same : (from to : DiskState) (P : Content → Type 0) → to ≡ from → Leaves from to P

@@ -12,7 +12,7 @@ use Rattle.outbox.specs.Files.{MayOpenTo}
 use Rattle.outbox.specs.Posts.{Outgoing, Posts}
 use Rattle.raster_field.specs.TileText.{tile_text}
 use Rattle.truncation_list.specs.declared.cover.Cover.{Cover}
-use Rattle.twin_events.specs.declared.carried.Carried.{Carried}
+use Rattle.twin_events.specs.declared.carried.CarriedPacket.{CarriedPacket}
 use Rattle.twin_events.specs.declared.got.Got.{Got}
 use Rattle.twin_events.specs.declared.got.Got.TheVariants as got
 use Rattle.twin_events.specs.Carries.{Carries, counts}
@@ -30,7 +30,7 @@ use Rattle.twin_lines.specs.declared.order.LinkSide.TheVariants as side
 pub data TwinAnswer : Type 0 where
   posted : Cover → Posted → TwinAnswer
   sent : Option ℕ → TwinAnswer
-  carried : ℕ → Carried → TwinAnswer
+  carried : ℕ → CarriedPacket → TwinAnswer
   stopped : LinkSide → TwinAnswer
   answered : Address → Got → TwinAnswer
 

@@ -4,8 +4,8 @@ use Rattle.change_feed.specs.declared.applied.Applied.{Applied}
 use Rattle.change_feed.specs.declared.applied.Applied.TheVariants as applied
 use Rattle.outbox.specs.declared.posted.Posted.{Posted}
 use Rattle.outbox.specs.declared.posted.Posted.TheVariants as posts
-use Rattle.twin_events.specs.declared.carried.Carried.{Carried}
-use Rattle.twin_events.specs.declared.carried.Carried.TheVariants as arrival
+use Rattle.twin_events.specs.declared.carried.CarriedPacket.{CarriedPacket}
+use Rattle.twin_events.specs.declared.carried.CarriedPacket.TheVariants as arrival
 use Rattle.twin_events.specs.declared.got.Got.{Got}
 use Rattle.twin_events.specs.declared.got.Got.TheVariants as got
 use Rattle.twin_lines.specs.Steps.{TwinAnswer, TwinStep, answered, carried, posted, sent, stopped}
@@ -48,7 +48,7 @@ unfoldable pub taken_text : ℕ → ℕ → Applied → ℕ → List ℕ
 taken_text n number reply seen = one_number (codes "taken ") n ++ codes " " ++ applied_text number reply ++ codes " " ++ decimal seen ++ codes "\n"
 
 -- what became of a packet that was carried: a change was taken, or it was heard that all changes up to one are seen, as news or not
-abbrev pub carried_text : ℕ → Carried → List ℕ
+abbrev pub carried_text : ℕ → CarriedPacket → List ℕ
 carried_text n (arrival.Taken number reply seen) = taken_text n number reply seen
 carried_text n (arrival.Heard i) = line_with (two_numbers (codes "heard ") n i)
 carried_text n arrival.Ignored = line_with (one_number (codes "ignored ") n)

@@ -12,7 +12,7 @@ use change_feed::Applied;
 use http_wire::ByteSink;
 use outbox::Posted;
 use tile_requests::{add, add_number, send_behind};
-use twin_events::{Carried, Got};
+use twin_events::{CarriedPacket, Got};
 
 /// A label and a number after it.
 #[tactic(auto, unfolding(crate::specs::Texts::one_number))]
@@ -135,14 +135,18 @@ fn tell_taken<O: ByteSink>(
 }
 
 /// Tells what became of a packet that was carried.
-pub(crate) fn tell_carried<O: ByteSink>(output: &mut O, line: u64, arrival: Carried) -> TwinLineEnd
+pub(crate) fn tell_carried<O: ByteSink>(
+    output: &mut O,
+    line: u64,
+    arrival: CarriedPacket,
+) -> TwinLineEnd
     ensures told { IsToldAs (record { writes = counts (O.faults output.old) (O.faults output.new); from = O.taken output.old; to = O.taken output.new }) (carried_text line arrival) result }
     ensures later { O.faults output.old ≤ O.faults output.new }
 {
     match arrival {
-        Carried::Taken(number, reply, seen) => tell_taken(output, line, number, reply, seen),
-        Carried::Heard(number) => send_line(output, two_numbers(b"heard ", line, number)),
-        Carried::Ignored => send_line(output, one_number(b"ignored ", line)),
+        CarriedPacket::Taken(number, reply, seen) => tell_taken(output, line, number, reply, seen),
+        CarriedPacket::Heard(number) => send_line(output, two_numbers(b"heard ", line, number)),
+        CarriedPacket::Ignored => send_line(output, one_number(b"ignored ", line)),
     }
 }
 

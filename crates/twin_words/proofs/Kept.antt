@@ -14,7 +14,7 @@ use Rattle.cut_follower.specs.Lossy.{Happens, IsFound, IsOpenedFrom, LinkEvent, 
 use Rattle.matrix_geometry.specs.declared.address.Address.{Address}
 use Rattle.outbox.specs.Posts.{Outgoing}
 use Rattle.truncation_list.specs.declared.book.Cut.{Cut}
-use Rattle.twin_events.specs.declared.carried.Carried.TheVariants as arrivals
+use Rattle.twin_events.specs.declared.carried.CarriedPacket.TheVariants as arrivals
 use Rattle.twin_events.specs.declared.got.Got.TheVariants as got
 use Rattle.twin_events.specs.Gets.{events_of}
 use Rattle.twin_events.specs.Twins.{IsAt, LeadsBy, TwinStanding}

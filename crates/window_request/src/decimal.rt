@@ -65,7 +65,12 @@ fn sign(alloc: Global, negative: bool) -> Result<Vec<u8>, AllocError>
 }
 
 /// The text of a number of so many units of 10^-places, with a minus where it is negative.
-fn written(alloc: Global, negative: bool, units: u128, places: u32) -> Result<Vec<u8>, AllocError>
+fn number_text(
+    alloc: Global,
+    negative: bool,
+    units: u128,
+    places: u32,
+) -> Result<Vec<u8>, AllocError>
     requires places { places ≤ 15 }
     requires size { units ≤ 10 ^ (18 + places) }
     ensures { IfOk result (λ text. Writes negative units places text.items) }
@@ -86,5 +91,5 @@ pub fn decimal_text(alloc: Global, n: i128, d: u128) -> Result<Vec<u8>, AllocErr
     ensures { IfOk result (λ text. IsDecimalOf (record { n = n; d = pos d }) text.items) }
 {
     let units = rounded(n.unsigned_abs(), d, PLACES);
-    written(alloc, n < 0, units, PLACES)
+    number_text(alloc, n < 0, units, PLACES)
 }

@@ -3,7 +3,7 @@ use exception_report::Code;
 
 /// What ends the reading of a query before its last row.
 #[derive(Clone, Copy)]
-pub enum End<'a> {
+pub enum ReadingEnd<'a> {
     /// The document of the service's capabilities is asked for.
     Document,
     /// The code of a refusal and its locator.

@@ -6,7 +6,7 @@ ghost use Rattle.dimension_key.specs.Draft.{draft_of};
 ghost use Rattle.wmts_kvp.specs.Ends.{row_of};
 ghost use Rattle.wmts_kvp.specs.Reading.{address_in, address_of, reading, query_reading, tile_asked, IsOfCatalogue};
 
-use crate::end::End;
+use crate::end::ReadingEnd;
 use crate::pairs::pairs_of;
 use crate::rows;
 use crate::theme::theme;
@@ -44,7 +44,7 @@ fn address_in<'a>(
     pairs: &'a [(Words, Words)],
     layer: u32,
     theme: Theme,
-) -> Result<Address, End<'a>>
+) -> Result<Address, ReadingEnd<'a>>
     requires valid { IsValid catalogue.now }
     requires layer { layer ≡ theme.layer }
     requires style { IsSomeAnd (slice_get catalogue.now.layers layer) (λ l. theme.style < length l.styles) }
@@ -69,7 +69,7 @@ fn address_in<'a>(
 
 /// The rows that say what is asked of the service: `Ok` where it is a tile.
 #[tactic(auto, unfolding(crate::specs::Reading::tile_asked, crate::specs::Pairs::value_of))]
-fn tile_asked<'a>(pairs: &'a [(Words, Words)]) -> Result<(), End<'a>>
+fn tile_asked<'a>(pairs: &'a [(Words, Words)]) -> Result<(), ReadingEnd<'a>>
     ensures { row_of result ≡ tile_asked pairs.now }
 {
     row!(rows::fixed(pairs, b"service", b"WMTS"));
@@ -79,7 +79,10 @@ fn tile_asked<'a>(pairs: &'a [(Words, Words)]) -> Result<(), End<'a>>
 
 /// All rows of the table in order.
 #[tactic(auto, unfolding(crate::specs::Reading::address_of, crate::specs::Pairs::value_of))]
-fn address_of<'a>(catalogue: &'a Catalogue, pairs: &'a [(Words, Words)]) -> Result<Address, End<'a>>
+fn address_of<'a>(
+    catalogue: &'a Catalogue,
+    pairs: &'a [(Words, Words)],
+) -> Result<Address, ReadingEnd<'a>>
     requires { IsValid catalogue.now }
     ensures value { row_of result ≡ address_of catalogue.now pairs.now }
     ensures tile { IfOk result (IsTile catalogue.now) }
@@ -105,8 +108,8 @@ pub fn read_pairs(
 {
     match address_of(catalogue, pairs) {
         Ok(address) => Ok(Query::Tile(address)),
-        Err(End::Document) => Ok(Query::Capabilities),
-        Err(End::Refusal(code, locator)) => {
+        Err(ReadingEnd::Document) => Ok(Query::Capabilities),
+        Err(ReadingEnd::Refusal(code, locator)) => {
             let locator = Words::new(alloc, locator)?;
             Ok(Query::Refused(code, Locator::At(locator)))
         }

@@ -8,7 +8,7 @@ ghost use Rattle.wmts_kvp.specs.Ends.{row_of, text_row, number_row};
 ghost use Rattle.wmts_kvp.specs.Pairs.{value_of};
 ghost use Rattle.wmts_kvp.specs.Rows.{some_or, parameter, equal, requested, style_or_first, number, is_number, rows_of, cols_of, below};
 
-use crate::end::End;
+use crate::end::ReadingEnd;
 use crate::number::{below, is_number};
 use crate::pairs::value_of;
 use catalog::Catalogue;
@@ -16,50 +16,54 @@ use exact_ratio::Words;
 use exception_report::Code;
 
 /// The value of a parameter that must be there.
-fn given<'a>(pairs: &'a [(Words, Words)], name: &'a [u8]) -> Result<&'a [u8], End<'a>>
+fn value_given<'a>(pairs: &'a [(Words, Words)], name: &'a [u8]) -> Result<&'a [u8], ReadingEnd<'a>>
     ensures { text_row result ≡ some_or MissingParameterValue name.now (value_of pairs.now name.now) }
 {
     match value_of(pairs, name) {
         Some(value) => Ok(value),
-        None => Err(End::Refusal(Code::MissingParameterValue, name)),
+        None => Err(ReadingEnd::Refusal(Code::MissingParameterValue, name)),
     }
 }
 
 /// What the value of a parameter names, where it names something.
-fn named<'a>(name: &'a [u8], found: Option<u32>) -> Result<u32, End<'a>>
+fn named<'a>(name: &'a [u8], found: Option<u32>) -> Result<u32, ReadingEnd<'a>>
     ensures value { row_of result ≡ some_or InvalidParameterValue name.now found }
     ensures number { IfOk result (λ number. found ≡ Some number) }
 {
     match found {
         Some(number) => Ok(number),
-        None => Err(End::Refusal(Code::InvalidParameterValue, name)),
+        None => Err(ReadingEnd::Refusal(Code::InvalidParameterValue, name)),
     }
 }
 
 /// A parameter that has one value only.
-pub fn fixed<'a>(pairs: &'a [(Words, Words)], name: &'a [u8], text: &[u8]) -> Result<(), End<'a>>
+pub fn fixed<'a>(
+    pairs: &'a [(Words, Words)],
+    name: &'a [u8],
+    text: &[u8],
+) -> Result<(), ReadingEnd<'a>>
     ensures { row_of result ≡ parameter pairs.now name.now MissingParameterValue InvalidParameterValue (equal text.now) }
 {
-    let value = given(pairs, name)?;
+    let value = value_given(pairs, name)?;
     if value == text {
         Ok(())
     } else {
-        Err(End::Refusal(Code::InvalidParameterValue, name))
+        Err(ReadingEnd::Refusal(Code::InvalidParameterValue, name))
     }
 }
 
 /// The operation: GetTile is read on.
-pub fn operation<'a>(pairs: &'a [(Words, Words)], name: &'a [u8]) -> Result<(), End<'a>>
+pub fn operation<'a>(pairs: &'a [(Words, Words)], name: &'a [u8]) -> Result<(), ReadingEnd<'a>>
     ensures { row_of result ≡ requested pairs.now name.now MissingParameterValue }
 {
-    let value = given(pairs, name)?;
+    let value = value_given(pairs, name)?;
     if value == b"GetCapabilities".as_slice() {
-        return Err(End::Document);
+        return Err(ReadingEnd::Document);
     }
     if value == b"GetTile".as_slice() {
         Ok(())
     } else {
-        Err(End::Refusal(Code::OperationNotSupported, value))
+        Err(ReadingEnd::Refusal(Code::OperationNotSupported, value))
     }
 }
 
@@ -68,12 +72,12 @@ pub fn layer<'a>(
     catalogue: &Catalogue,
     pairs: &'a [(Words, Words)],
     name: &'a [u8],
-) -> Result<u32, End<'a>>
+) -> Result<u32, ReadingEnd<'a>>
     requires { IsValid catalogue.now }
     ensures value { row_of result ≡ parameter pairs.now name.now MissingParameterValue InvalidParameterValue (layer_named catalogue.now) }
     ensures there { IfOk result (λ layer. layer < length catalogue.now.layers) }
 {
-    let value = given(pairs, name)?;
+    let value = value_given(pairs, name)?;
     named(name, catalogue.layer_named(value))
 }
 
@@ -96,13 +100,13 @@ pub fn style<'a>(
     layer: u32,
     pairs: &'a [(Words, Words)],
     name: &'a [u8],
-) -> Result<u32, End<'a>>
+) -> Result<u32, ReadingEnd<'a>>
     requires valid { IsValid catalogue.now }
     requires layer { layer < length catalogue.now.layers }
     ensures value { row_of result ≡ parameter pairs.now name.now MissingParameterValue InvalidParameterValue (style_or_first catalogue.now layer) }
     ensures there { IfOk result (λ style. IsSomeAnd (slice_get catalogue.now.layers layer) (λ l. style < length l.styles)) }
 {
-    let value = given(pairs, name)?;
+    let value = value_given(pairs, name)?;
     named(name, style_or_first(catalogue, layer, value))
 }
 
@@ -112,13 +116,13 @@ pub fn grid<'a>(
     layer: u32,
     pairs: &'a [(Words, Words)],
     name: &'a [u8],
-) -> Result<u32, End<'a>>
+) -> Result<u32, ReadingEnd<'a>>
     requires { IsValid catalogue.now }
     ensures value { row_of result ≡ parameter pairs.now name.now MissingParameterValue InvalidParameterValue (served_grid_named catalogue.now layer) }
     ensures there { IfOk result (λ grid. grid < length catalogue.now.grids) }
     ensures served { IfOk result (λ grid. IsSomeAnd (slice_get catalogue.now.layers layer) (λ l. Contains l.grids grid)) }
 {
-    let value = given(pairs, name)?;
+    let value = value_given(pairs, name)?;
     named(name, catalogue.served_grid_named(layer, value))
 }
 
@@ -128,25 +132,25 @@ pub fn matrix<'a>(
     grid: u32,
     pairs: &'a [(Words, Words)],
     name: &'a [u8],
-) -> Result<u32, End<'a>>
+) -> Result<u32, ReadingEnd<'a>>
     requires valid { IsValid catalogue.now }
     requires grid { grid < length catalogue.now.grids }
     ensures { row_of result ≡ parameter pairs.now name.now MissingParameterValue InvalidParameterValue (matrix_named catalogue.now grid) }
 {
-    let value = given(pairs, name)?;
+    let value = value_given(pairs, name)?;
     named(name, catalogue.matrix_named(grid, value))
 }
 
 /// A row or a column as its digits.
-pub fn digits<'a>(pairs: &'a [(Words, Words)], name: &'a [u8]) -> Result<&'a [u8], End<'a>>
+pub fn digits<'a>(pairs: &'a [(Words, Words)], name: &'a [u8]) -> Result<&'a [u8], ReadingEnd<'a>>
     ensures value { number_row result ≡ parameter pairs.now name.now MissingParameterValue InvalidParameterValue number }
     ensures form { IfOk result (λ text. is_number text.now ≡ true) }
 {
-    let value = given(pairs, name)?;
+    let value = value_given(pairs, name)?;
     if is_number(value) {
         Ok(value)
     } else {
-        Err(End::Refusal(Code::InvalidParameterValue, name))
+        Err(ReadingEnd::Refusal(Code::InvalidParameterValue, name))
     }
 }
 
@@ -171,13 +175,13 @@ pub fn cols_of(catalogue: &Catalogue, grid: u32, z: u32) -> u32
 }
 
 /// The number that digits spell, below the limit.
-pub fn in_range<'a>(name: &'a [u8], limit: u32, digits: &[u8]) -> Result<u32, End<'a>>
+pub fn in_range<'a>(name: &'a [u8], limit: u32, digits: &[u8]) -> Result<u32, ReadingEnd<'a>>
     requires { is_number digits.now ≡ true }
     ensures value { row_of result ≡ some_or TileOutOfRange name.now (below limit (digits_value 10 digits.now)) }
     ensures below { IfOk result (λ number. number < limit) }
 {
     match below(limit, digits) {
         Some(number) => Ok(number),
-        None => Err(End::Refusal(Code::TileOutOfRange, name)),
+        None => Err(ReadingEnd::Refusal(Code::TileOutOfRange, name)),
     }
 }

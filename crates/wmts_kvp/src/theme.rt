@@ -7,7 +7,7 @@ ghost use Rattle.wmts_kvp.specs.Ends.{row_of};
 ghost use Rattle.wmts_kvp.specs.Pairs.{value_of};
 ghost use Rattle.wmts_kvp.specs.Rows.{or_refusal, dimensions};
 
-use crate::end::End;
+use crate::end::ReadingEnd;
 use crate::pairs::value_of;
 use catalog::Catalogue;
 use dimension_key::{DimFault, ThemeDraft};
@@ -20,7 +20,7 @@ fn with_value<'a>(
     catalogue: &Catalogue,
     pairs: &[(Words, Words)],
     name: &'a [u8],
-) -> Result<ThemeDraft, End<'a>>
+) -> Result<ThemeDraft, ReadingEnd<'a>>
     requires valid { IsValid catalogue.now }
     requires more { IsSome (dimension_at catalogue.now draft.theme.layer draft.count) }
     ensures value { row_of result ≡ or_refusal name.now (drafted catalogue.now (value_of pairs.now name.now) draft) }
@@ -28,8 +28,8 @@ fn with_value<'a>(
 {
     match draft.add(catalogue, value_of(pairs, name)) {
         Ok(()) => Ok(draft),
-        Err(DimFault::Missing) => Err(End::Refusal(Code::MissingParameterValue, name)),
-        Err(DimFault::Invalid) => Err(End::Refusal(Code::InvalidParameterValue, name)),
+        Err(DimFault::Missing) => Err(ReadingEnd::Refusal(Code::MissingParameterValue, name)),
+        Err(DimFault::Invalid) => Err(ReadingEnd::Refusal(Code::InvalidParameterValue, name)),
     }
 }
 
@@ -40,7 +40,7 @@ pub fn theme<'a>(
     pairs: &[(Words, Words)],
     layer: u32,
     style: u32,
-) -> Result<ThemeDraft, End<'a>>
+) -> Result<ThemeDraft, ReadingEnd<'a>>
     requires valid { IsValid catalogue.now }
     ensures value { row_of result ≡ dimensions catalogue.now pairs.now (dimensions_of catalogue.now layer) (draft_of layer style) }
     ensures layer { IfOk result (λ draft. draft.theme.layer ≡ layer) }

@@ -62,7 +62,7 @@ fn pair(alloc: Global, name: &[u8], value: &[u8]) -> Result<(Words, Words), Allo
 }
 
 /// The parameters that have one value for all tiles.
-fn supplied(alloc: Global) -> Result<Vec<(Words, Words)>, AllocError>
+fn fixed_pairs(alloc: Global) -> Result<Vec<(Words, Words)>, AllocError>
     ensures { IfOk result (λ pairs. pairs.items ≡ supplied) }
 {
     let mut pairs = Vec::new(alloc);
@@ -81,7 +81,7 @@ fn pairs_under(
 ) -> Result<Vec<(Words, Words)>, AllocError>
     ensures { IfOk result (λ pairs. pairs.items ≡ pairs_under names.now texts.now) }
 {
-    let mut pairs = supplied(alloc)?;
+    let mut pairs = fixed_pairs(alloc)?;
     for (name, text) in names.iter().zip(texts) {
         pairs.push(pair(alloc, name.bytes(), text.bytes())?)?;
     }

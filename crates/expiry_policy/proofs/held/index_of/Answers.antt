@@ -1,6 +1,6 @@
 use Rattle.std.proofs.Common.{◌≡◌, Option, Some, None, is_some, IfSome, ℕ, List, subst, sym, ◌∙◌}
 use Rattle.metatile_plan.specs.declared.metatile.MetaKey.{MetaKey}
-use Rattle.expiry_policy.specs.declared.held.Tally.{Tally}
+use Rattle.expiry_policy.specs.declared.held.UseTally.{UseTally}
 use Rattle.std.specs.List.{position}
 use Rattle.std.specs.Map.{keys_of, lookup}
 use Rattle.metatile_plan.specs.Keys.{same_meta}
@@ -15,7 +15,7 @@ returns-clause-variant c =
     subst (λ eq. is_some c.get_index_of.result ≡ is_some (lookup (eq m) es)) derived_is c.get_index_of.ensures.found ∙ sym (is_some-use_in m es)
 
 -- the key at the index that is found
-found_meta : (m : MetaKey) (es : List (MetaKey × Tally)) (r : Option ℕ) → r ≡ position (same_meta m) (keys_of es) → IfSome r (λ at. (use_at es at).meta ≡ m)
+found_meta : (m : MetaKey) (es : List (MetaKey × UseTally)) (r : Option ℕ) → r ≡ position (same_meta m) (keys_of es) → IfSome r (λ at. (use_at es at).meta ≡ m)
 found_meta m es None e = tt
 found_meta m es (Some at) e = (meta_at_position m es at (sym e)).1
 

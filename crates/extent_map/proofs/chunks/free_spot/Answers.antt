@@ -1,6 +1,6 @@
 use Rattle.std.proofs.Common.{◌≡◌, ◌+◌, ◌≤◌, ◌∙◌, List, arith, get_or, subst, sym}
 use Rattle.std.proofs.lemmas.Bool.Decides.{nat_tests}
-use Rattle.extent_map.specs.declared.part.Part.{Part}
+use Rattle.extent_map.specs.declared.part.Extent.{Extent}
 use Rattle.extent_map.specs.Parts.{part_at, LieInOrder}
 use Rattle.extent_map.specs.Spaces.{IsFree}
 use Rattle.extent_map.specs.Holes.{IsHole}
@@ -13,17 +13,17 @@ own c = c.parts.ensures ∙ c.index-chunks-chunk.is
 
 pub hole_at-requires-clause-ordered : goal.hole_at-requires-clause-ordered
 hole_at-requires-clause-ordered c =
-    subst (λ (ps : List Part). LieInOrder 0 ps c.args.size) (sym (own c)) (chunk_order 0 c.args.chunks.now c.args.size c.chunk_of-chunk.result c.index-chunks-chunk.result c.if-chunk-chunks.true c.requires.ordered)
+    subst (λ (ps : List Extent). LieInOrder 0 ps c.args.size) (sym (own c)) (chunk_order 0 c.args.chunks.now c.args.size c.chunk_of-chunk.result c.index-chunks-chunk.result c.if-chunk-chunks.true c.requires.ordered)
 
 pub returns-in-Some-clause-fits : goal.returns-in-Some-clause-fits
 returns-in-Some-clause-fits c =
     claim_fits c.args.chunks.now c.args.size c.chunk_of-chunk.result c.in-Some.index c.index-chunks-chunk.result (part_at c.args.place c.args.bytes) c.if-chunk-chunks.true c.requires.ordered c.chunk_of-chunk.ensures.before
-    (c.chunk_of-chunk.ensures.at c.if-chunk-chunks.true) (subst (λ (ps : List Part). IsHole ps c.args.size c.in-Some.index (part_at c.args.place c.args.bytes)) (c.parts.ensures ∙ c.index-chunks-chunk.is) c.in-Some.ensures.hole)
+    (c.chunk_of-chunk.ensures.at c.if-chunk-chunks.true) (subst (λ (ps : List Extent). IsHole ps c.args.size c.in-Some.index (part_at c.args.place c.args.bytes)) (c.parts.ensures ∙ c.index-chunks-chunk.is) c.in-Some.ensures.hole)
 
 pub returns-in-None-clause-none : goal.returns-in-None-clause-none
 returns-in-None-clause-none c = λ free.
     c.in-None.ensures.none
-    (subst (λ (ps : List Part). IsFree ps c.args.size (part_at c.args.place c.args.bytes)) (sym (c.parts.ensures ∙ c.index-chunks-chunk.is))
+    (subst (λ (ps : List Extent). IsFree ps c.args.size (part_at c.args.place c.args.bytes)) (sym (c.parts.ensures ∙ c.index-chunks-chunk.is))
     (claim_none c.args.chunks.now c.args.size c.chunk_of-chunk.result c.index-chunks-chunk.result (part_at c.args.place c.args.bytes) c.if-chunk-chunks.true free))
 
 pub returns-clause-fits : goal.returns-clause-fits

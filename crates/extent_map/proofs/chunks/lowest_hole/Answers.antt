@@ -1,7 +1,7 @@
 use Rattle.std.proofs.Common.{◌+◌, ◌≤◌, ◌∙◌, List, ap, arith, subst}
 use Rattle.std.proofs.lemmas.Bool.Decides.{nat_tests}
 use Rattle.std.proofs.lemmas.List.{get_or_default}
-use Rattle.extent_map.specs.declared.part.Part.{Part}
+use Rattle.extent_map.specs.declared.part.Extent.{Extent}
 use Rattle.extent_map.specs.Parts.{part_at}
 use Rattle.extent_map.specs.Holes.{last_end, FitsBeforeNone, IsFirstHole}
 use Rattle.extent_map.proofs.InChunks.{chunk_order_from}
@@ -18,12 +18,12 @@ hole_in-requires-clause-ordered c =
 pub returns-in-Some-clause-fits : goal.returns-in-Some-clause-fits
 returns-in-Some-clause-fits c =
     found_fits c.args.chunks.now c.args.size c.args.bytes c.loop-chunk.chunk c.loop-chunk.place c.in-Some.hole.index c.in-Some.hole.place c.index-chunks-chunk.result c.loop-chunk-test.true c.requires.ordered c.loop-chunk.invariant
-    (subst (λ (ps : List Part). IsFirstHole ps c.loop-chunk.place c.in-Some.hole.index c.in-Some.hole.place c.args.bytes) c.index-chunks-chunk.is c.in-Some.ensures.hole)
+    (subst (λ (ps : List Extent). IsFirstHole ps c.loop-chunk.place c.in-Some.hole.index c.in-Some.hole.place c.args.bytes) c.index-chunks-chunk.is c.in-Some.ensures.hole)
 
 pub returns-in-Some-clause-lowest : goal.returns-in-Some-clause-lowest
 returns-in-Some-clause-lowest c =
     found_lowest c.args.chunks.now c.args.size c.args.bytes c.loop-chunk.chunk c.loop-chunk.place c.in-Some.hole.index c.in-Some.hole.place c.index-chunks-chunk.result c.loop-chunk-test.true c.loop-chunk.invariant
-    (subst (λ (ps : List Part). IsFirstHole ps c.loop-chunk.place c.in-Some.hole.index c.in-Some.hole.place c.args.bytes) c.index-chunks-chunk.is c.in-Some.ensures.hole)
+    (subst (λ (ps : List Extent). IsFirstHole ps c.loop-chunk.place c.in-Some.hole.index c.in-Some.hole.place c.args.bytes) c.index-chunks-chunk.is c.in-Some.ensures.hole)
 
 pub loop-chunk-preserved : goal.loop-chunk-preserved
 loop-chunk-preserved c =

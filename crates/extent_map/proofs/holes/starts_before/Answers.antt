@@ -3,12 +3,12 @@ use Rattle.std.proofs.lemmas.Bool.Decides.{nat_tests}
 use Rattle.std.proofs.lemmas.Fn.{always_returns_same}
 use Rattle.std.proofs.lemmas.List.Sorted.{IsPartitionedBy-ltb}
 use Rattle.std.specs.List.Sorted.{IsPartitionPoint}
-use Rattle.extent_map.specs.declared.part.Part.{Part}
+use Rattle.extent_map.specs.declared.part.Extent.{Extent}
 use Rattle.extent_map.proofs.Order.{never_falls}
 use Rattle.extent_map.proofs.Claims.{within_take, within_drop}
 use Rattle.extent_map.proofs.holes.starts_before.Goals as goal
 
-point : (c : goal.After-partition_point) → IsPartitionPoint (λ (q : Part). ltb q.place c.args.place ≡ true) (λ (q : Part). ltb q.place c.args.place ≡ false) c.args.parts.now c.partition_point.result
+point : (c : goal.After-partition_point) → IsPartitionPoint (λ (q : Extent). ltb q.place c.args.place ≡ true) (λ (q : Extent). ltb q.place c.args.place ≡ false) c.args.parts.now c.partition_point.result
 point c =
     c.partition_point.ensures.partitioned (λ q. ltb q.place c.args.place) (always_returns_same _ _ _ (λ a r f k. search (rules, of_calls))) (IsPartitionedBy-ltb (λ q. q.place) c.args.parts.now c.args.place (never_falls c.args.parts.now c.requires.rising))
 

@@ -5,6 +5,6 @@ use Rattle.metatile_locks.proofs.table.mark_each.Goals as goal
 
 pub marking-preserved : goal.marking-preserved
 marking-preserved c = (
-  mark_more (hits_in c.args.f.now c.args.grid.now c.args.cover.now) c.args.number c.args.renders.now c.marking.renders c.marking.i _ c.marked.result c.marking-test.true (omega (arith, c.marking.auto.renders)) c.marking.invariant.0 c.marked.ensures.marked,
-  c.marked.ensures.aimed,
+  mark_more (hits_in c.args.f.now c.args.grid.now c.args.cover.now) c.args.number c.args.renders.now c.marking.renders c.marking.i _ c.marked_render.result c.marking-test.true (omega (arith, c.marking.auto.renders)) c.marking.invariant.0 c.marked_render.ensures.marked,
+  c.marked_render.ensures.aimed,
 )

@@ -1,6 +1,6 @@
 use Rattle.std.proofs.Common.{◌≡◌, ◌-◌, ◌<◌, ◌∙◌, List, ap, arith, refl, subst, sym, take}
 use Rattle.std.proofs.lemmas.Bool.{false≢true}
-use Rattle.extent_map.specs.declared.part.Part.{Part}
+use Rattle.extent_map.specs.declared.part.Extent.{Extent}
 use Rattle.extent_map.specs.Parts.{part_at, LieInOrder}
 use Rattle.extent_map.specs.Spaces.{IsFree, Space}
 use Rattle.extent_map.specs.Chunks.{all_parts}
@@ -16,7 +16,7 @@ same_parts : (c : goal.After-first_of-first) → all_parts c.first_of-first.resu
 same_parts c = parts_first c.prepare-self-inside.new.chunks.items c.first_of-first.result.now c.prepare-self-inside.result (first c) c.prepare-self-inside.ensures.first.none ∙ c.prepare-self-inside.ensures.parts
 
 pub free_spot-requires-clause-ordered : goal.free_spot-requires-clause-ordered
-free_spot-requires-clause-ordered c = subst (λ (ps : List Part). LieInOrder 0 ps c.self.inside.size) (sym (same_parts c)) c.self.invariant.ordered
+free_spot-requires-clause-ordered c = subst (λ (ps : List Extent). LieInOrder 0 ps c.self.inside.size) (sym (same_parts c)) c.self.invariant.ordered
 
 pub free_spot-requires-clause-chunks : goal.free_spot-requires-clause-chunks
 free_spot-requires-clause-chunks c =
@@ -51,7 +51,7 @@ pub returns-in-None-clause-free : goal.returns-in-None-clause-free
 returns-in-None-clause-free c =
     let is = c.first_of-first.ensures ∙ ap (take c.prepare-self-inside.result) c.as_slice.ensures.value in
     let same = parts_first c.prepare-self-inside.new.chunks.items c.first_of-first.result.now c.prepare-self-inside.result is c.prepare-self-inside.ensures.first.none ∙ c.prepare-self-inside.ensures.parts in
-    rw (← c.self.view_is) (λ told. absurd (false≢true told), λ free. absurd (c.in-None.ensures.none (subst (λ (ps : List Part). IsFree ps c.self.inside.size (part_at c.args.place c.args.length)) (sym same) free)))
+    rw (← c.self.view_is) (λ told. absurd (false≢true told), λ free. absurd (c.in-None.ensures.none (subst (λ (ps : List Extent). IsFree ps c.self.inside.size (part_at c.args.place c.args.length)) (sym same) free)))
 
 pub returns-in-Some-clause-free : goal.returns-in-Some-clause-free
 returns-in-Some-clause-free c = rw (← c.self.view_is) (λ t. entered_free _ _ _ _ _ _ _ (entered c), λ f. refl)

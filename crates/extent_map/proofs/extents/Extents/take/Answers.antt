@@ -1,5 +1,5 @@
 use Rattle.std.proofs.Common.{◌-◌, ◌<◌, ◌∙◌, List, ap, arith, length, refl, subst, sym, take}
-use Rattle.extent_map.specs.declared.part.Part.{Part}
+use Rattle.extent_map.specs.declared.part.Extent.{Extent}
 use Rattle.extent_map.specs.Parts.{part_at, LieInOrder}
 use Rattle.extent_map.specs.Spaces.{Space, NoneFree, NoneFreeBelow}
 use Rattle.extent_map.specs.Chunks.{all_parts}
@@ -11,7 +11,7 @@ pub lowest_hole-requires-clause-ordered : goal.lowest_hole-requires-clause-order
 lowest_hole-requires-clause-ordered c =
     let is = c.first_of-first.ensures ∙ ap (take c.prepare-self-inside.result) c.as_slice.ensures.value in
     let same = parts_first c.prepare-self-inside.new.chunks.items c.first_of-first.result.now c.prepare-self-inside.result is c.prepare-self-inside.ensures.first.none ∙ c.prepare-self-inside.ensures.parts ∙ ap all_parts c.refresh.ensures in
-    subst (λ (ps : List Part). LieInOrder 0 ps c.self.inside.size) (sym same) c.self.invariant.ordered
+    subst (λ (ps : List Extent). LieInOrder 0 ps c.self.inside.size) (sym same) c.self.invariant.ordered
 
 pub lowest_hole-requires-clause-chunks : goal.lowest_hole-requires-clause-chunks
 lowest_hole-requires-clause-chunks c =
@@ -23,7 +23,7 @@ pub returns-in_err-found-clause-none : goal.returns-in_err-found-clause-none
 returns-in_err-found-clause-none c =
     let is = c.first_of-first.ensures ∙ ap (take c.prepare-self-inside.result) c.as_slice.ensures.value in
     let same = parts_first c.prepare-self-inside.new.chunks.items c.first_of-first.result.now c.prepare-self-inside.result is c.prepare-self-inside.ensures.first.none ∙ c.prepare-self-inside.ensures.parts ∙ ap all_parts c.refresh.ensures in
-    rw (c.from_residual.ensures, ← c.self.view_is) (subst (λ (ps : List Part). NoneFree ps c.self.inside.size c.args.length) same c.in_err-found.ensures.none)
+    rw (c.from_residual.ensures, ← c.self.view_is) (subst (λ (ps : List Extent). NoneFree ps c.self.inside.size c.args.length) same c.in_err-found.ensures.none)
 
 pub enter-self-inside-requires-clause-fits : goal.enter-self-inside-requires-clause-fits
 enter-self-inside-requires-clause-fits c =
@@ -42,7 +42,7 @@ entered : (c : goal.After-self-3-1)
 entered c =
     entered_first c.self.inside.chunks.items c.prepare-self-inside.new.chunks.items c.first_of-first.result.now c.enter-self-inside.new.chunks.items c.self.inside.size c.prepare-self-inside.result c.in_ok-found.found.spot.chunk
     c.in_ok-found.found.spot.index (part_at c.in_ok-found.found.place c.args.length) (c.prepare-self-inside.ensures.parts ∙ ap all_parts c.refresh.ensures)
-    (c.prepare-self-inside.ensures.len ∙ ap (λ (pss : List (List Part)). length pss) c.refresh.ensures) (c.first_of-first.ensures ∙ ap (take c.prepare-self-inside.result) c.as_slice.ensures.value) c.prepare-self-inside.ensures.first
+    (c.prepare-self-inside.ensures.len ∙ ap (λ (pss : List (List Extent)). length pss) c.refresh.ensures) (c.first_of-first.ensures ∙ ap (take c.prepare-self-inside.result) c.as_slice.ensures.value) c.prepare-self-inside.ensures.first
     c.in_ok-found.ensures.fits c.requires.some c.enter-self-inside.ensures.parts c.enter-self-inside.ensures.len
 
 spare : (c : goal.After-self-3-1) → 0 < c.self.inside.room - c.self.inside.taken
@@ -58,7 +58,7 @@ pub returns-clause-lowest : goal.returns-clause-lowest
 returns-clause-lowest c =
     let is = c.first_of-first.ensures ∙ ap (take c.prepare-self-inside.result) c.as_slice.ensures.value in
     let same = parts_first c.prepare-self-inside.new.chunks.items c.first_of-first.result.now c.prepare-self-inside.result is c.prepare-self-inside.ensures.first.none ∙ c.prepare-self-inside.ensures.parts ∙ ap all_parts c.refresh.ensures in
-    rw (← c.self.view_is) (subst (λ (ps : List Part). NoneFreeBelow ps c.self.inside.size c.args.length c.in_ok-found.found.place) same c.in_ok-found.ensures.lowest)
+    rw (← c.self.view_is) (subst (λ (ps : List Extent). NoneFreeBelow ps c.self.inside.size c.args.length c.in_ok-found.found.place) same c.in_ok-found.ensures.lowest)
 
 pub returns-clause-taken : goal.returns-clause-taken
 returns-clause-taken c = let more = spare c in rw (← c.self.view_is) (record { entered = entered_is _ _ _ _ _ _ _ (entered c); same_size = refl; one_less = omega arith })

@@ -1,22 +1,22 @@
 use Rattle.std.proofs.Common.{ℕ, ◌≡◌, ◌≤◌, List, ap, arith, length, subst, sym}
 use Rattle.std.specs.List.{insert}
-use Rattle.kept_areas.specs.declared.spot.Spot.{Spot}
+use Rattle.kept_areas.specs.declared.spot.KeptSpot.{KeptSpot}
 use Rattle.kept_areas.specs.Bounds.{AreBounded}
 use Rattle.kept_areas.specs.Kept.{IsEntered}
 use Rattle.kept_areas.proofs.Bounded.{entered_bounded}
 use Rattle.kept_areas.proofs.InChunks.{entered_length, inserted}
 use Rattle.kept_areas.proofs.area.Area.enter.Goals as goal
 
-entered : (s : Spot) (old new : List Spot) (index : ℕ) → index ≤ length old → new ≡ insert old index s → IsEntered s old new
+entered : (s : KeptSpot) (old new : List KeptSpot) (index : ℕ) → index ≤ length old → new ≡ insert old index s → IsEntered s old new
 entered s old new index l e = subst (IsEntered s old) (sym e) (inserted s old index l)
 
 pub invariant_of-self : goal.invariant_of-self
 invariant_of-self c =
     let old = c.self.inside.spots.items in
-    let within : c.place_in-index.result ≤ length old = subst (λ (zs : List Spot). c.place_in-index.result ≤ length zs) c.as_slice.ensures.value c.place_in-index.ensures in
+    let within : c.place_in-index.result ≤ length old = subst (λ (zs : List KeptSpot). c.place_in-index.result ≤ length zs) c.as_slice.ensures.value c.place_in-index.ensures in
     let e = entered c.args.spot.now old c.insert_at.new.spots.items c.place_in-index.result within c.insert_at.ensures.items in
     let long = entered_length c.args.spot.now old c.insert_at.new.spots.items e in
-    let room = ap (λ (zs : List Spot). length zs) c.self.view_is in
+    let room = ap (λ (zs : List KeptSpot). length zs) c.self.view_is in
     let few = c.requires.room in
     let capacity = c.insert_at.ensures.capacity in
     let was = c.self.invariant.0 in (
@@ -28,5 +28,5 @@ invariant_of-self c =
 pub returns : goal.returns
 returns c =
     let old = c.self.inside.spots.items in
-    let within : c.place_in-index.result ≤ length old = subst (λ (zs : List Spot). c.place_in-index.result ≤ length zs) c.as_slice.ensures.value c.place_in-index.ensures in
-    subst (λ (zs : List Spot). IsEntered c.args.spot.now zs c.insert_at.new.spots.items) c.self.view_is (entered c.args.spot.now old c.insert_at.new.spots.items c.place_in-index.result within c.insert_at.ensures.items)
+    let within : c.place_in-index.result ≤ length old = subst (λ (zs : List KeptSpot). c.place_in-index.result ≤ length zs) c.as_slice.ensures.value c.place_in-index.ensures in
+    subst (λ (zs : List KeptSpot). IsEntered c.args.spot.now zs c.insert_at.new.spots.items) c.self.view_is (entered c.args.spot.now old c.insert_at.new.spots.items c.place_in-index.result within c.insert_at.ensures.items)

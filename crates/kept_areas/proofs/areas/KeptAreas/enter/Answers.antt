@@ -1,6 +1,6 @@
 use Rattle.std.proofs.Common.{◌≡◌, ◌-◌, ◌≤◌, ◌∙◌, cond, List, Some, None, ap, arith, subst, sym}
 use Rattle.metatile_plan.specs.Keys.{same_meta}
-use Rattle.kept_areas.specs.declared.spot.Spot.{Spot}
+use Rattle.kept_areas.specs.declared.spot.KeptSpot.{KeptSpot}
 use Rattle.kept_areas.specs.Areas.{Areas, all_spots, number_in}
 use Rattle.kept_areas.proofs.Entered.{kept_entered, number_entered}
 use Rattle.kept_areas.proofs.areas.KeptAreas.enter.Goals as goal
@@ -16,6 +16,6 @@ pub returns-clause-numbers : goal.returns-clause-numbers
 returns-clause-numbers c = λ k.
     let chunks = c.self.inside.chunks.items in
     let is : all_spots c.prepare-self-inside.new.chunks.items ≡ all_spots c.args.self.now.chunks = c.prepare-self-inside.ensures.spots ∙ ap (λ (a : Areas). all_spots a.chunks) c.self.view_is in
-    let none = ap (λ (zs : List Spot). number_in zs c.args.meta.now) is ∙ c.requires.fresh in
+    let none = ap (λ (zs : List KeptSpot). number_in zs c.args.meta.now) is ∙ c.requires.fresh in
     number_entered c.args.meta.now c.args.number (all_spots c.prepare-self-inside.new.chunks.items) (all_spots c.enter-self-inside.new.chunks.items) c.enter-self-inside.ensures.entered none k
-    ∙ ap (λ (zs : List Spot). cond (same_meta k c.args.meta.now) (Some c.args.number) (number_in zs k)) is
+    ∙ ap (λ (zs : List KeptSpot). cond (same_meta k c.args.meta.now) (Some c.args.number) (number_in zs k)) is

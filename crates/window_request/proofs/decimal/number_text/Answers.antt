@@ -1,6 +1,6 @@
 use Rattle.std.proofs.Common.{List, ℕ, [], ◌∷◌, ◌++◌, ap, ◌∙◌}
 use Rattle.window_request.proofs.Padding.{writes_all}
-use Rattle.window_request.proofs.decimal.written.Goals as goal
+use Rattle.window_request.proofs.decimal.number_text.Goals as goal
 
 pub returns : goal.returns
 returns c =

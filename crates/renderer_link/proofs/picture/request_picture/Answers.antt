@@ -1,7 +1,7 @@
 use Rattle.std.proofs.Common.{ℕ, List, subst}
 use Rattle.ppm_reading.specs.Form.{IsPixmap}
 use Rattle.renderer_link.proofs.Refusing.{no_pixmap}
-use Rattle.renderer_link.proofs.picture.pictured.Goals as goal
+use Rattle.renderer_link.proofs.picture.request_picture.Goals as goal
 
 pub returns-in-None-clause-shown : goal.returns-in-None-clause-shown
 returns-in-None-clause-shown g c =

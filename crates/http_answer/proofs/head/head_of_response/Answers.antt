@@ -1,6 +1,6 @@
 use Rattle.std.proofs.Common.{sym, ◌∙◌, drop}
 use Rattle.http_answer.proofs.Heads.{begins, framing_is, fits}
-use Rattle.http_answer.proofs.head.framed.Goals as goal
+use Rattle.http_answer.proofs.head.head_of_response.Goals as goal
 
 pub returns-then-spans-ne200 : goal.returns-then-spans-ne200
 returns-then-spans-ne200 c =

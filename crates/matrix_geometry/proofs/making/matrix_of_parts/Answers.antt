@@ -1,6 +1,6 @@
 use Rattle.matrix_geometry.proofs.Made.{PassesTests, made_is, within_limits}
 use Rattle.matrix_geometry.proofs.Products.{seen_64_of_size}
-use Rattle.matrix_geometry.proofs.making.made.Goals as goal
+use Rattle.matrix_geometry.proofs.making.matrix_of_parts.Goals as goal
 
 passes : (c : goal.After-billionths-2) → PassesTests c.in-Some.span c.args.corner.now c.args.tile c.args.size
 passes c = record {

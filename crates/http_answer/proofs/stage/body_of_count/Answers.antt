@@ -1,6 +1,6 @@
 use Rattle.std.proofs.Common.{◌-◌, ◌≤◌, length, arith}
 use Rattle.http_answer.proofs.Told.{counted_whole}
-use Rattle.http_answer.proofs.stage.counted.Goals as goal
+use Rattle.http_answer.proofs.stage.body_of_count.Goals as goal
 
 pub returns : goal.returns
 returns c came at =
