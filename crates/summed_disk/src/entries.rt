@@ -29,8 +29,9 @@ fn entry_place(grain: u32, at: u64) -> u64
     8 * (at / u64::from(grain))
 }
 
-/// Reads the sum that stands for what begins at a place of the disk.
-pub(crate) fn read_sum<S: Disk>(sums: &mut S, grain: u32, at: u64) -> Result<u64, Failed>
+/// Reads the sum that stands for what begins at a place of the disk; 0 where none was written. `Failed` only where the count of faults of the
+/// sums rose. They are only read.
+pub fn read_sum<S: Disk>(sums: &mut S, grain: u32, at: u64) -> Result<u64, Failed>
     requires grain { 8 < grain }
     requires at { at ≤ 2 ^ 62 }
     ensures told { S.told sums.new ≡ S.told sums.old }
@@ -43,8 +44,9 @@ pub(crate) fn read_sum<S: Disk>(sums: &mut S, grain: u32, at: u64) -> Result<u64
     Ok(LittleEndian::read_u64(&entry))
 }
 
-/// Writes the sum for what begins at a place of the disk.
-fn write_sum<S: Disk>(sums: &mut S, grain: u32, at: u64, sum: u64) -> Result<(), Failed>
+/// Writes the sum for what begins at a place of the disk, and no other. `Failed` only where the count of faults of the sums rose; this one may
+/// then be any.
+pub fn write_sum<S: Disk>(sums: &mut S, grain: u32, at: u64, sum: u64) -> Result<(), Failed>
     requires grain { 8 < grain }
     requires at { at ≤ 2 ^ 62 }
     ensures told { S.told sums.new ≡ S.told sums.old }

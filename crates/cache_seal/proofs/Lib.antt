@@ -1,0 +1,4 @@
+pub mod Together
+pub mod Apart
+pub mod Blobs
+pub mod Restoring

@@ -1,0 +1,5 @@
+pub mod Ends
+pub mod Fates
+pub mod OfCache
+pub mod Seals
+pub mod Tiles
