@@ -1,6 +1,9 @@
 pub mod Parts
 pub mod Begun
 pub mod Choices
+pub mod Entries
+pub mod Refusals
+pub mod Ordered
 pub mod Pieces
 pub mod Copies
 pub mod Bodied

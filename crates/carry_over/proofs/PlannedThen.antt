@@ -58,11 +58,11 @@ module _ (c d : Catalogue) (last : Option ℕ) (kept : List Kept) (book : Book) 
             (subst (λ (m : ℕ). HasTaken d (opening_with m floor cuts copied.kept) start seen image) next (copied.images image left)));
       }
 
-pub late_of_made : (d : Catalogue) (last : Option ℕ) (book : Book) (before after : ℕ) (f : CarryFault) → (f ≡ carry.NotMade) ⊎ (f ≡ carry.OutOfMemory) ⊎ (f ≡ carry.NewDisk) → (f ≡ carry.NewDisk → Rose before after)
-    → IsLateFault d last book before after f
-late_of_made d last book before after f (inl e) rose = inr (inl e)
-late_of_made d last book before after f (inr (inl e)) rose = inl (subst (IsPlanFault d last book) (sym e) tt)
-late_of_made d last book before after f (inr (inr e)) rose = inr (inr (e, rose e))
+pub late_of_made : (d : Catalogue) (last : Option ℕ) (book : Book) (told : Bool) (before after : ℕ) (f : CarryFault) → (f ≡ carry.NotMade) ⊎ (f ≡ carry.OutOfMemory) ⊎ (f ≡ carry.NewDisk) → (f ≡ carry.NotMade → IsTrue told → ⊥)
+    → (f ≡ carry.NewDisk → Rose before after) → IsLateFault d last book told before after f
+late_of_made d last book told before after f (inl e) made rose = inr (inl (e, made e))
+late_of_made d last book told before after f (inr (inl e)) made rose = inl (subst (IsPlanFault d last book) (sym e) tt)
+late_of_made d last book told before after f (inr (inr e)) made rose = inr (inr (e, rose e))
 
 -- AFTER A REPLAY
 
@@ -96,19 +96,19 @@ module _ (told : Bool) (c d : Catalogue) (disk : DiskState) (j : Journal) (last 
         (subst (λ (x : Content). IsTakenFrom c d (opening_of last kept book) x may_leave n.kept n.cuts n.roomless n.unread) (same is) taken);
   }
 
-  plan_cause : (before after new_before new_after : ℕ) (f : CarryFault) → IsPlanFault d last book f → IsCarryFault told c d seen before after new_before new_after f
-  plan_cause b a nb na (carry.Old fault.NotACache) h = absurd h
-  plan_cause b a nb na (carry.Old (fault.CatalogueDiffers found asked)) h = absurd h
-  plan_cause b a nb na (carry.Old (fault.BadRecord slot)) h = absurd h
-  plan_cause b a nb na (carry.Old fault.Spent) h = λ is. (r, opens_to is, let n = number_as in omega (arith, n, h))
-  plan_cause b a nb na (carry.Old fault.DiskFault) h = absurd h
-  plan_cause b a nb na (carry.Old fault.OutOfMemory) h = absurd h
-  plan_cause b a nb na carry.NewDisk h = absurd h
-  plan_cause b a nb na carry.NotMade h = tt
-  plan_cause b a nb na carry.CutsFull h = λ is. (r, opens_to is, (h.0, subst (λ (x : Book). ChoosesCuts d x.cuts h.0) p.restored.book_is h.1, h.2))
-  plan_cause b a nb na carry.OutOfMemory h = tt
+  plan_cause : (before after : ℕ) (new_told : Bool) (new_before new_after : ℕ) (f : CarryFault) → IsPlanFault d last book f → IsCarryFault told c d seen before after new_told new_before new_after f
+  plan_cause b a nt nb na (carry.Old fault.NotACache) h = absurd h
+  plan_cause b a nt nb na (carry.Old (fault.CatalogueDiffers found asked)) h = absurd h
+  plan_cause b a nt nb na (carry.Old (fault.BadRecord slot)) h = absurd h
+  plan_cause b a nt nb na (carry.Old fault.Spent) h = λ is. (r, opens_to is, let n = number_as in omega (arith, n, h))
+  plan_cause b a nt nb na (carry.Old fault.DiskFault) h = absurd h
+  plan_cause b a nt nb na (carry.Old fault.OutOfMemory) h = absurd h
+  plan_cause b a nt nb na carry.NewDisk h = absurd h
+  plan_cause b a nt nb na carry.NotMade h = absurd h
+  plan_cause b a nt nb na carry.CutsFull h = λ is. (r, opens_to is, (h.0, subst (λ (x : Book). ChoosesCuts d x.cuts h.0) p.restored.book_is h.1, h.2))
+  plan_cause b a nt nb na carry.OutOfMemory h = tt
 
-  pub late_cause : (before after new_before new_after : ℕ) (f : CarryFault) → IsLateFault d last book new_before new_after f → IsCarryFault told c d seen before after new_before new_after f
-  late_cause b a nb na f (inl h) = plan_cause b a nb na f h
-  late_cause b a nb na f (inr (inl h)) = subst (IsCarryFault told c d seen b a nb na) (sym h) tt
-  late_cause b a nb na f (inr (inr h)) = subst (IsCarryFault told c d seen b a nb na) (sym h.0) h.1
+  pub late_cause : (before after : ℕ) (new_told : Bool) (new_before new_after : ℕ) (f : CarryFault) → IsLateFault d last book new_told new_before new_after f → IsCarryFault told c d seen before after new_told new_before new_after f
+  late_cause b a nt nb na f (inl h) = plan_cause b a nt nb na f h
+  late_cause b a nt nb na f (inr (inl h)) = subst (IsCarryFault told c d seen b a nt nb na) (sym h.0) h.1
+  late_cause b a nt nb na f (inr (inr h)) = subst (IsCarryFault told c d seen b a nt nb na) (sym h.0) h.1

@@ -1,5 +1,5 @@
 -- The images of a new disk once what is taken over was written down.
-use Rattle.std.proofs.Common.{ℕ, ◌≡◌, ◌+◌, ◌<◌, ◌≤◌, ◌^◌, List, [], ◌∷◌, length, length-append, map, Some, None, refl, ap, subst, ◌∙◌, arith}
+use Rattle.std.proofs.Common.{ℕ, ◌≡◌, ◌+◌, ◌<◌, ◌≤◌, ◌^◌, List, [], ◌∷◌, length, length-append, map, Option, Some, None, refl, ap, subst, ◌∙◌, arith}
 use Rattle.std.specs.List.{AllByRecursion}
 use Rattle.std.proofs.lemmas.List.Sorted.{IsPermutation-refl}
 use Rattle.base.specs.Readings.{Readings, unread}
@@ -8,7 +8,7 @@ use Rattle.cabinet.specs.Fresh.{HoldsOfKept, IsOfLength, MayBeginWith}
 use Rattle.cabinet.specs.History.{CabinetOpening, first_front, whole}
 use Rattle.cabinet.specs.State.{IsKnown, State}
 use Rattle.cabinet_records.specs.Recorded.{compacted, stored_record}
-use Rattle.cabinet_records.specs.Replay.{AreRecordsOf}
+use Rattle.cabinet_records.specs.Replay.{AreRecordsOf, Replays, unplayed}
 use Rattle.cabinet_records.proofs.RecordedOpening.{compacts_recorded}
 use Rattle.cache_file.specs.File.{Anywhere, HasBlobAt, HasHeld, held, opens_to}
 use Rattle.catalog.specs.declared.catalogue.Catalogue.{Catalogue}
@@ -24,7 +24,7 @@ use Rattle.durable_cabinet.specs.Filed.{IsOpeningOf}
 use Rattle.durable_cabinet.specs.Images.{HasIn, blob_on, blobs_start, slots_for}
 use Rattle.durable_cabinet.proofs.Tying.{restored}
 use Rattle.gate_journal.specs.declared.journal.Journal.{Journal}
-use Rattle.gate_journal.specs.Opened.{records}
+use Rattle.gate_journal.specs.Opened.{opened, records}
 use Rattle.gate_journal.specs.Sound.{digest_of, slots_of}
 use Rattle.record_text.specs.declared.entries.Record.{Record}
 use Rattle.record_text.specs.Fits.{Fits}
@@ -32,6 +32,8 @@ use Rattle.record_text.specs.Spelling.{spelling}
 use Rattle.carry_over.specs.Chosen.{IsPartOf}
 use Rattle.carry_over.specs.Copied.{IsCopyOn}
 use Rattle.carry_over.specs.Taken.{HasTaken}
+use Rattle.carry_over.proofs.Entries.{one_list}
+use Rattle.carry_over.proofs.Ordered.{same_order}
 use Rattle.carry_over.proofs.Parts.{part_all, part_apart, part_disjoint, part_long}
 
 -- a cabinet without modelled blobs that begins with an opening
@@ -90,7 +92,19 @@ module _ (d : Catalogue) (from : ℕ) (seen image : Content) where
   taken_image o j valid number opens fits digest slots there has whole =
       let k = known d o valid number opens in
       let r = restored (begun d o unread) j (records 2 (bodies_for o)) (reading_as image) image k digest slots (written d o k fits) there (all_own o.kept has) whole in
-      record { replayed = r.replayed; opens = r.opens; opening = r.opening; kept = r.kept; answers = r.answers; has = has; ours = r.ours }
+      let is : opened d.digest (slots_for d) image ≡ records 2 (bodies_for o) =
+      subst (λ (n : ℕ). opened d.digest n image ≡ records 2 (bodies_for o)) slots (subst (λ (x : List ℕ). opened x (slots_of j) image ≡ records 2 (bodies_for o)) digest there) in
+      let rs = compacted o.number o.book o.kept in
+      let entries = one_list (opened d.digest (slots_for d) image) r.opens.version 2 r.opens.bodies (bodies_for o) r.opens.entries (map (λ (x : Record). Some x) rs) r.opens.opens is r.opens.are (spelled_all rs fits) in
+      record {
+        replayed = r.replayed;
+        opens = r.opens;
+        opening = r.opening;
+        kept = same_order d o r.replayed opens.once (subst (λ (es : List (Option Record)). Replays d unplayed es r.replayed) entries r.opens.replays);
+        answers = r.answers;
+        has = has;
+        ours = r.ours;
+      }
 
 -- a part of what an opening keeps, with the rest of it, is an opening
 pub part_begins : (d : Catalogue) (o : CabinetOpening) (kept : List Kept) → MayBeginWith d o → IsPartOf kept o.kept → MayBeginWith d (record { number = o.number; kept = kept; book = o.book })

@@ -2,7 +2,6 @@
 use Rattle.std.specs.Prelude.{ℕ, ◌≡◌, ◌<◌, ◌+◌, ◌⊎◌, Bool, IsTrue, List, length, Option, Some, ⊤}
 use Rattle.std.specs.List.{AllByRecursion}
 use Rattle.std.specs.Option.{option_map_or}
-use Rattle.std.specs.List.Sorted.{IsPermutation}
 use Rattle.cabinet.specs.declared.kept.Kept.{Kept}
 use Rattle.cabinet.specs.History.{CabinetOpening}
 use Rattle.cabinet_records.specs.Replay.{Replayed, book_after, opening_after}
@@ -21,14 +20,14 @@ use Rattle.carry_over.specs.Planned.{IsPlanFault}
 use Rattle.carry_over.specs.declared.fault.CarryFault.{CarryFault}
 use Rattle.carry_over.specs.declared.fault.CarryFault.TheVariants as carry
 
--- An image opens under a catalogue to an opening: to its number, to what it keeps, each metatile under its number, with its region, moment and uses, and to a
--- book that answers for its own; it has in each region the bytes that a content has there, counted from where the blobs of that one begin; and it is the
+-- An image opens under a catalogue to an opening: to its number, to what it keeps in its order, each metatile under its number, with its region, moment and uses,
+-- and to a book that answers for its own; it has in each region the bytes that a content has there, counted from where the blobs of that one begin; and it is the
 -- file of a cabinet.
 pub record HasTaken (d : Catalogue) (o : CabinetOpening) (from : ℕ) (seen image : Content) : Type 0 where
   pub replayed : Replayed
   pub opens : OpensTo d image replayed
   pub opening : replayed.opening ≡ Some o.number
-  pub kept : IsPermutation replayed.kept o.kept
+  pub kept : replayed.kept ≡ o.kept
   pub answers : AnswersForBook (book_after replayed) o.book
   pub has : AllByRecursion (λ t. HasBlobAt (blobs_start d + t.place) (bytes_at seen (from + t.place) t.length) image) o.kept
   pub ours : IsOurs d image
@@ -66,14 +65,15 @@ pub record IsTakenOver (c d : Catalogue) (seen : Content) (may_leave : Content �
   pub taken : IsTakenFrom c d (opening_after replayed) seen may_leave kept_count cut_count roomless unread
 
 -- WHY IT ISN'T: the old disk is refused as an opening of its cache refuses it; the new disk's count of faults rose; more of the cuts that the old records come to
--- are of the new catalogue than it lets be listed; memory ran out; or the new disk, which then isn't modelled, doesn't give back the file that was made there
-abbrev pub IsCarryFault : Bool → Catalogue → Catalogue → Content → ℕ → ℕ → ℕ → ℕ → CarryFault → Type 0
-IsCarryFault told c d seen before after new_before new_after (carry.Old fault) = IsRefusedAs told c seen before after fault
-IsCarryFault told c d seen before after new_before new_after carry.NewDisk = Rose new_before new_after
-IsCarryFault told c d seen before after new_before new_after carry.NotMade = ⊤
-IsCarryFault told c d seen before after new_before new_after carry.CutsFull = IsTrue told → (r : Replayed) × OpensTo c seen r × ((cuts : List Cut) × ChoosesCuts d (book_after r).cuts cuts × (d.cut_limit < length cuts))
-IsCarryFault told c d seen before after new_before new_after carry.OutOfMemory = ⊤
+-- are of the new catalogue than it lets be listed; memory ran out; or the new disk doesn't give back the file that was made there, which one that is modelled does
+abbrev pub IsCarryFault : Bool → Catalogue → Catalogue → Content → ℕ → ℕ → Bool → ℕ → ℕ → CarryFault → Type 0
+IsCarryFault told c d seen before after new_told new_before new_after (carry.Old fault) = IsRefusedAs told c seen before after fault
+IsCarryFault told c d seen before after new_told new_before new_after carry.NewDisk = Rose new_before new_after
+IsCarryFault told c d seen before after new_told new_before new_after carry.NotMade = IsTrue new_told → ⊥
+IsCarryFault told c d seen before after new_told new_before new_after carry.CutsFull = IsTrue told → (r : Replayed) × OpensTo c seen r × ((cuts : List Cut) × ChoosesCuts d (book_after r).cuts cuts × (d.cut_limit < length cuts))
+IsCarryFault told c d seen before after new_told new_before new_after carry.OutOfMemory = ⊤
 
 -- why it isn't once the old disk was read: no number is left, the new disk, too many cuts, or memory
-abbrev pub IsLateFault : Catalogue → Option ℕ → Book → ℕ → ℕ → CarryFault → Type 0
-IsLateFault d last book new_before new_after fault = IsPlanFault d last book fault ⊎ (fault ≡ carry.NotMade) ⊎ ((fault ≡ carry.NewDisk) × Rose new_before new_after)
+abbrev pub IsLateFault : Catalogue → Option ℕ → Book → Bool → ℕ → ℕ → CarryFault → Type 0
+IsLateFault d last book new_told new_before new_after fault =
+    IsPlanFault d last book fault ⊎ ((fault ≡ carry.NotMade) × (IsTrue new_told → ⊥)) ⊎ ((fault ≡ carry.NewDisk) × Rose new_before new_after)

@@ -118,7 +118,9 @@ fn carry_restored<D: Disk, E: Disk>(
     ensures old_later { D.faults old ≤ D.faults result.old }
     ensures taken { IsTrue (D.told old) → IsTrue (E.told new) → IfOk result.end (λ n. IsTakenFrom from.now to.now (opening_of restored.now.opening restored.now.kept.items restored.now.cuts.book) (D.state old).seen (E.state result.new).may_leave n.kept n.cuts n.roomless n.unread) }
     ensures unread { IfOk result.end (λ n. 1 ≤ n.unread → Rose (D.faults old) (D.faults result.old)) }
-    ensures cause { IfErr result.end (IsLateFault to.now restored.now.opening restored.now.cuts.book (E.faults new) (E.faults result.new)) }
+    ensures new_told { E.told result.new ≡ E.told new }
+    ensures new_later { E.faults new ≤ E.faults result.new }
+    ensures cause { IfErr result.end (IsLateFault to.now restored.now.opening restored.now.cuts.book (E.told new) (E.faults new) (E.faults result.new)) }
 {
     match plan(
         alloc,
@@ -154,8 +156,9 @@ fn carry_restored<D: Disk, E: Disk>(
 }
 
 /// Takes the cache of one catalogue over under another one: makes a new cache in place of what the new disk holds, which keeps each metatile that the change
-/// leaves alone under its number, with its region, its moment and its saved uses, and each truncation in force that is of the new catalogue, under its number.
-/// The old disk is only read; the new one counts only once this has ended well.
+/// leaves alone under its number, with its region, its moment and its saved uses, in the order of the old one's records, and each truncation in force that is of
+/// the new catalogue, under its number. The old disk is only read. The new one counts only once this has ended well; what is then said of its images is said of it as it
+/// is handed back, so of all that a crash leaves of it from then on until it is written to.
 ///
 /// Left out are metatiles whose region ends past the room of the new catalogue, the ones that were used the longest ago where more are kept than it lets be
 /// kept, and those that weren't read, which is only where the old disk's count of faults rose. Each fault has its cause (`specs/Taken.antt`).
@@ -173,7 +176,9 @@ pub fn carry<D: Disk, E: Disk>(
     ensures old_later { D.faults old ≤ D.faults result.old }
     ensures taken { IsTrue (D.told old) → IsTrue (E.told new) → IfOk result.end (λ n. IsTakenOver from.now to.now (D.state old).seen (E.state result.new).may_leave n.kept n.cuts n.roomless n.unread) }
     ensures unread { IfOk result.end (λ n. 1 ≤ n.unread → Rose (D.faults old) (D.faults result.old)) }
-    ensures cause { IfErr result.end (IsCarryFault (D.told old) from.now to.now (D.state old).seen (D.faults old) (D.faults result.old) (E.faults new) (E.faults result.new)) }
+    ensures new_told { E.told result.new ≡ E.told new }
+    ensures new_later { E.faults new ≤ E.faults result.new }
+    ensures cause { IfErr result.end (IsCarryFault (D.told old) from.now to.now (D.state old).seen (D.faults old) (D.faults result.old) (E.told new) (E.faults new) (E.faults result.new)) }
 {
     laws_of_replays();
     match replay(alloc, from, old) {

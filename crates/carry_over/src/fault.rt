@@ -16,7 +16,7 @@ pub enum CarryFault {
     Old(OpenFault),
     /// The new disk failed.
     NewDisk,
-    /// The new disk doesn't give back the file that was made there.
+    /// The new disk, which then isn't modelled, doesn't give back the file that was made there.
     NotMade,
     /// More truncations in force are of the new catalogue than it lets be listed.
     CutsFull,

@@ -18,6 +18,7 @@ use std::alloc::Global;
 /// Why a file that was just made isn't opened.
 fn fault_of(fault: OpenFault) -> CarryFault
     ensures cause { result ≡ CarryFault.NewDisk → fault ≡ OpenFault.DiskFault }
+    ensures made { result ≡ CarryFault.NotMade → (fault ≡ OpenFault.DiskFault → ⊥) × (fault ≡ OpenFault.OutOfMemory → ⊥) }
     ensures ends { (result ≡ CarryFault.NotMade) ⊎ (result ≡ CarryFault.OutOfMemory) ⊎ (result ≡ CarryFault.NewDisk) }
 {
     match fault {
@@ -30,7 +31,7 @@ fn fault_of(fault: OpenFault) -> CarryFault
     }
 }
 
-/// Makes the file of a new cache in place of what a disk holds. A fault hands the disk back.
+/// Makes the file of a new cache in place of what a disk holds. A fault hands the disk back. A disk that is modelled gives back what was made there.
 pub fn made_file<E: Disk>(
     alloc: Global,
     to: &Catalogue,
@@ -43,6 +44,9 @@ pub fn made_file<E: Disk>(
     ensures start { IfOk result (λ f. f.start ≡ blobs_start to.now) }
     ensures whole { IfOk result (λ f. IsWhole (E.told f.disk) f.journal (E.state f.disk)) }
     ensures later { IfOk result (λ f. E.faults disk ≤ E.faults f.disk) }
+    ensures told_back { IfErr result (λ r. E.told r.1 ≡ E.told disk) }
+    ensures later_back { IfErr result (λ r. E.faults disk ≤ E.faults r.1) }
+    ensures made { IfErr result (λ r. r.0 ≡ CarryFault.NotMade → IsTrue (E.told disk) → ⊥) }
     ensures ends { IfErr result (λ r. (r.0 ≡ CarryFault.NotMade) ⊎ (r.0 ≡ CarryFault.OutOfMemory) ⊎ (r.0 ≡ CarryFault.NewDisk)) }
     ensures failed { IfErr result (λ r. r.0 ≡ CarryFault.NewDisk → Rose (E.faults disk) (E.faults r.1)) }
 {

@@ -8,7 +8,8 @@ use Rattle.carry_over.proofs.carrying.carry_restored.Goals as goal
 
 pub returns-in-Err-made_file-clause-cause : goal.returns-in-Err-made_file-clause-cause
 returns-in-Err-made_file-clause-cause g c =
-    late_of_made c.args.to.now c.args.restored.now.opening c.args.restored.now.cuts.book (g.E.Disk.faults c.args.new) (g.E.Disk.faults c.in-Err-made_file.new) c.in-Err-made_file.fault (search rules) (search rules)
+    late_of_made c.args.to.now c.args.restored.now.opening c.args.restored.now.cuts.book (g.E.Disk.told c.args.new) (g.E.Disk.faults c.args.new) (g.E.Disk.faults c.in-Err-made_file.new) c.in-Err-made_file.fault (search rules)
+    (search rules) (search rules)
 
 pub carry_into-end-requires-clause-begins : goal.carry_into-end-requires-clause-begins
 carry_into-end-requires-clause-begins g c =
