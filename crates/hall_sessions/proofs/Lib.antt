@@ -1,3 +1,5 @@
+pub mod Apart
+pub mod Composed
 pub mod Read
 pub mod Unknown
 pub mod Causing

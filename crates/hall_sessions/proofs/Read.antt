@@ -2,6 +2,8 @@
 use Rattle.std.proofs.Common.{ℕ, ◌≡◌, Bool, true, false, List, [], Option, Some, None, inl, inr, refl, sym, subst, ◌∙◌}
 use Rattle.std.specs.Prelude.{◌⊎◌, MatchOption}
 use Rattle.catalog.specs.declared.catalogue.Catalogue.{Catalogue}
+use Rattle.composite_requests.specs.declared.request.CompositeRequest.{CompositeRequest}
+use Rattle.composite_requests.specs.Routes.{request_for as composite_request_for}
 use Rattle.http_wire.specs.declared.message.Message.{Message}
 use Rattle.job_board.specs.Calls.{BoardHolding}
 use Rattle.job_requests.specs.declared.request.JobRequest.{JobRequest}
@@ -10,6 +12,7 @@ use Rattle.job_requests.specs.Routes.{request_for as job_request_for}
 use Rattle.job_requests.specs.Served.{ServesJob, outcome_of_look, outcome_of_status, outcome_of_submission}
 use Rattle.job_requests.specs.Texts.{progress_text, status_text, submitted_text}
 use Rattle.job_board.specs.declared.status.JobStatus.{JobStatus}
+use Rattle.layer_recipes.specs.declared.book.RecipeBook.{RecipeBook}
 use Rattle.cabinet_chest.specs.declared.shown.Note.{Note}
 use Rattle.cache_hall.specs.Turned.{HallPass}
 use Rattle.cache_hall.specs.Gained.{gains_none}
@@ -22,8 +25,9 @@ use Rattle.tile_requests.specs.declared.request.Request.{Request}
 use Rattle.tile_requests.specs.Requests.{told_at}
 use Rattle.tile_requests.specs.Routes.{request_for}
 use Rattle.tile_requests.specs.Shown.{shown_message}
+use Rattle.hall_sessions.specs.Composites.{ServesComposite}
 use Rattle.hall_sessions.specs.Requested.{ServesRequest}
-use Rattle.hall_sessions.specs.Served.{IsJobMessageServed, IsOtherMessageServed, ServesOverHall}
+use Rattle.hall_sessions.specs.Served.{IsCompositeMessageServed, IsJobMessageServed, IsOtherMessageServed, ServesOverHall}
 
 -- WHERE A JOB IS ASKED FOR THE SOURCE HAS NO PART
 
@@ -65,38 +69,68 @@ pub asked_of_jobs : (c : Catalogue) (parts : MessageRef) (m : Message) → parts
 unfolding job_request_for
 asked_of_jobs c parts m method target body = rw (method, target, body) refl
 
--- a message was served by a pass that stood so, by what it asks of jobs
-abbrev IsServedAs : Catalogue → HallPass → Message → Option Request → List (Made Note) → BoardHolding → BoardHolding → Outcome → Option JobRequest → Type 0
-IsServedAs c p m request gained board board_after o asked =
-    MatchOption asked (IsOtherMessageServed c p.told p.book m request gained o × (board_after ≡ board)) (λ r. IsJobMessageServed c r gained board board_after o × (request ≡ None))
+-- and so is what it asks for below /composites/
+pub asked_of_composites : (c : Catalogue) (recipes : RecipeBook) (parts : MessageRef) (m : Message) → parts.method ≡ m.method → parts.target.now ≡ m.target → composite_request_for c recipes (shown_message parts) ≡ composite_request_for c recipes m
+unfolding composite_request_for
+asked_of_composites c recipes parts m method target = rw (method, target) refl
 
-unread_as : (c : Catalogue) (p : HallPass) (m : Message) (board : BoardHolding) (asked : Option JobRequest) → IsServedAs c p m None [] board board (outcome.Plain plain.NoMemory) asked
-unread_as c p m board None = ((refl, refl), refl)
-unread_as c p m board (Some r) = (inr ((refl, refl), refl), refl)
+-- a message was served by a pass that stood so, by what it asks of jobs, and by what it asks for below /composites/
+abbrev IsServedAs : Catalogue → RecipeBook → HallPass → Message → Option Request → List (Made Note) → BoardHolding → BoardHolding → Outcome → Option JobRequest → Option CompositeRequest → Type 0
+IsServedAs c recipes p m request gained board board_after o of_jobs of_composites =
+    MatchOption of_jobs
+    (MatchOption of_composites (IsOtherMessageServed c p.told p.book m request gained o) (λ r. IsCompositeMessageServed c recipes p.told p.book r gained o × (request ≡ None)) × (board_after ≡ board))
+    (λ r. IsJobMessageServed c r gained board board_after o × (request ≡ None))
+
+unread_as : (c : Catalogue) (recipes : RecipeBook) (p : HallPass) (m : Message) (board : BoardHolding) (of_jobs : Option JobRequest) (of_composites : Option CompositeRequest) → IsServedAs c recipes p m None [] board board (outcome.Plain plain.NoMemory) of_jobs of_composites
+unread_as c recipes p m board None None = ((refl, refl), refl)
+unread_as c recipes p m board None (Some r) = ((inr (refl, refl), refl), refl)
+unread_as c recipes p m board (Some r) of_composites = (inr ((refl, refl), refl), refl)
 
 -- REQUESTS AND MESSAGES
 
-module _ (c : Catalogue) (before after : ℕ) (p : HallPass) where
+module _ (c : Catalogue) (recipes : RecipeBook) (before after : ℕ) (p : HallPass) where
   -- no memory was left to read the message
-  pub unread : (m : Message) (board : BoardHolding) → ServesOverHall c before after m p p board board (outcome.Plain plain.NoMemory)
-  unread m board = record { gained = []; gains = gains_none c p; request = None; served = unread_as c p m board (job_request_for c m); cause = λ e. absurd (cc) }
+  pub unread : (m : Message) (board : BoardHolding) → ServesOverHall c recipes before after m p p board board (outcome.Plain plain.NoMemory)
+  unread m board = record {
+    gained = [];
+    gains = gains_none c p;
+    request = None;
+    served = unread_as c recipes p m board (job_request_for c m) (composite_request_for c recipes m);
+    cause = λ e. absurd (cc);
+  }
 
   -- the message asks this of jobs
-  pub served_at_board : (m : Message) (board board_after : BoardHolding) (r : JobRequest) (o : Outcome) → Some r ≡ job_request_for c m → ServesJob c r board board_after o → ServesOverHall c before after m p p board board_after o
+  pub served_at_board : (m : Message) (board board_after : BoardHolding) (r : JobRequest) (o : Outcome) → Some r ≡ job_request_for c m → ServesJob c r board board_after o → ServesOverHall c recipes before after m p p board board_after o
   served_at_board m board board_after r o asks h = record {
     gained = [];
     gains = gains_none c p;
     request = None;
-    served = subst (IsServedAs c p m None [] board board_after o) asks (inl (refl, h), refl);
+    served = subst (λ (j : Option JobRequest). IsServedAs c recipes p m None [] board board_after o j (composite_request_for c recipes m)) asks (inl (refl, h), refl);
     cause = λ e. absurd (no_source_failed c board board_after o r h e);
   }
 
-  -- the message asks nothing of jobs, and this by the table of paths
-  pub read_so : (q : HallPass) (m : Message) (board : BoardHolding) (r : Request) (o : Outcome) → None ≡ job_request_for c m → r ≡ request_for c m → ServesRequest c before after r p q o → ServesOverHall c before after m p q board board o
-  read_so q m board r o other is h = record {
+  -- the message asks nothing of jobs, and this below /composites/
+  pub composed_so : (q : HallPass) (m : Message) (board : BoardHolding) (r : CompositeRequest) (o : Outcome) → None ≡ job_request_for c m → Some r ≡ composite_request_for c recipes m → ServesComposite c recipes before after r p q o
+      → ServesOverHall c recipes before after m p q board board o
+  composed_so q m board r o other asks h = record {
+    gained = h.gained;
+    gains = h.gains;
+    request = None;
+    served =
+        subst (λ (j : Option JobRequest). IsServedAs c recipes p m None h.gained board board o j (composite_request_for c recipes m)) other
+        (subst (λ (x : Option CompositeRequest). IsServedAs c recipes p m None h.gained board board o None x) asks ((inl h.served, refl), refl));
+    cause = h.cause;
+  }
+
+  -- the message asks nothing of jobs and nothing below /composites/, and this by the table of paths
+  pub read_so : (q : HallPass) (m : Message) (board : BoardHolding) (r : Request) (o : Outcome) → None ≡ job_request_for c m → None ≡ composite_request_for c recipes m → r ≡ request_for c m → ServesRequest c before after r p q o
+      → ServesOverHall c recipes before after m p q board board o
+  read_so q m board r o other none is h = record {
     gained = h.gained;
     gains = h.gains;
     request = Some r;
-    served = subst (IsServedAs c p m (Some r) h.gained board board o) other ((is, h.served), refl);
+    served =
+        subst (λ (j : Option JobRequest). IsServedAs c recipes p m (Some r) h.gained board board o j (composite_request_for c recipes m)) other
+        (subst (λ (x : Option CompositeRequest). IsServedAs c recipes p m (Some r) h.gained board board o None x) none ((is, h.served), refl));
     cause = h.cause;
   }

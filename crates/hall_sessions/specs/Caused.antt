@@ -1,6 +1,6 @@
 -- Why each answer of a session came: who asks for a tile gets it, but for the causes that stand here, and each other answer has its cause
 -- too.
-use Rattle.std.specs.Prelude.{ℕ, ◌≡◌, ◌⊎◌, Bool, true, false, List, [], ◌∷◌, length, Option, Some, None, ⊤}
+use Rattle.std.specs.Prelude.{ℕ, ◌≡◌, ◌⊎◌, Bool, true, false, List, [], ◌∷◌, length, Option, Some, None, Result, Ok, Err, ⊤}
 use Rattle.cabinet.specs.declared.replies.CutReply.{CutReply}
 use Rattle.cabinet.specs.declared.replies.CutReply.TheVariants as cut
 use Rattle.cabinet.specs.declared.replies.Expired.{Expired}
@@ -10,7 +10,11 @@ use Rattle.cabinet_chest.specs.declared.command.Reply.TheVariants as reply
 use Rattle.cabinet_chest.specs.declared.shown.Note.{Note}
 use Rattle.cache_core.specs.declared.outcome.Tile.{Tile}
 use Rattle.catalog.specs.declared.catalogue.Catalogue.{Catalogue}
+use Rattle.arrayvec.specs.ArrayVec.{ArrayVec}
 use Rattle.base.specs.Causes.{Rose}
+use Rattle.composite_requests.specs.declared.request.CompositeRequest.{CompositeRequest}
+use Rattle.composite_requests.specs.declared.request.CompositeRequest.TheVariants as composite_request
+use Rattle.composite_requests.specs.Routes.{request_for as composite_request_for}
 use Rattle.http_wire.specs.declared.message.Message.{Message}
 use Rattle.job_board.specs.declared.shown.BoardCommand.TheVariants as board_command
 use Rattle.job_board.specs.declared.shown.BoardReply.TheVariants as board_reply
@@ -23,6 +27,11 @@ use Rattle.job_requests.specs.Texts.{progress_text, status_text, statuses_text, 
 use Rattle.job_board.specs.declared.status.JobStatus.{JobStatus}
 use Rattle.job_forms.specs.declared.job.Job.{Job}
 use Rattle.job_forms.specs.Places.{places}
+use Rattle.layer_recipes.specs.declared.book.RecipeBook.{RecipeBook}
+use Rattle.layer_recipes.specs.declared.composed.Composed.{Composed}
+use Rattle.layer_recipes.specs.declared.composed.ComposeFault.{ComposeFault}
+use Rattle.layer_recipes.specs.declared.composed.ComposeFault.TheVariants as compose_fault
+use Rattle.layer_recipes.specs.declared.place.TilePlace.{TilePlace}
 use Rattle.matrix_geometry.specs.declared.address.Address.{Address}
 use Rattle.metatile_plan.specs.declared.metatile.MetaKey.{MetaKey}
 use Rattle.truncation_list.specs.declared.cover.Cover.{Cover}
@@ -38,6 +47,7 @@ use Rattle.tile_requests.specs.declared.request.Request.TheVariants as request
 use Rattle.tile_requests.specs.Requests.{answered_at}
 use Rattle.tile_requests.specs.Routes.{request_for, spelling_of}
 use Rattle.tile_requests.specs.Texts.{dropped_text}
+use Rattle.hall_sessions.specs.Composites.{IsComposed}
 use Rattle.hall_sessions.specs.Exchanges.{HallExchange}
 use Rattle.tile_requests.specs.Counted.{IsCounted}
 
@@ -48,13 +58,24 @@ outcome_told e = answered_at (spelling_of e.message) e.left e.came_to
 -- WHAT IS ASKED FOR
 
 -- the message asks for this by the table of paths
-pub record AsksFor (c : Catalogue) (m : Message) (r : Request) : Type 0 where
+pub record AsksFor (c : Catalogue) (recipes : RecipeBook) (m : Message) (r : Request) : Type 0 where
   pub no_job : job_request_for c m ≡ None
+  pub no_composite : composite_request_for c recipes m ≡ None
   pub is : request_for c m ≡ r
+
+-- the message asks for this tile by the table of paths, whatever the recipes: there is no tile at the path of a composite
+pub record AsksForTile (c : Catalogue) (m : Message) (a : Address) : Type 0 where
+  pub no_job : job_request_for c m ≡ None
+  pub is : request_for c m ≡ request.Tile a
 
 -- the message asks for this at /jobs or below it
 abbrev pub AsksOfJobs : Catalogue → Message → JobRequest → Type 0
 AsksOfJobs c m r = job_request_for c m ≡ Some r
+
+-- the message asks for this below /composites/
+pub record AsksForComposite (c : Catalogue) (recipes : RecipeBook) (m : Message) (r : CompositeRequest) : Type 0 where
+  pub no_job : job_request_for c m ≡ None
+  pub is : composite_request_for c recipes m ≡ Some r
 
 -- WHO ASKS FOR A TILE
 
@@ -69,22 +90,22 @@ pub record IsGiven (c : Catalogue) (told : Bool) (a : Address) (e : HallExchange
 -- cause.
 abbrev pub TilesAreGiven : Catalogue → Bool → HallExchange → Type 0
 TilesAreGiven c told e =
-    (a : Address) → AsksFor c e.message (request.Tile a)
+    (a : Address) → AsksForTile c e.message a
     → IsGiven c told a e ⊎ ((outcome_told e ≡ outcome.Plain plain.NoMemory) ⊎ (((outcome_told e ≡ outcome.SourceFailed) × Rose e.renders_before e.renders_after) ⊎ ((outcome_told e ≡ outcome.Plain plain.Spent) × HasMetSpent a e.gained)))
 
 -- WHO CHANGES WHAT IS KEPT
 
 -- the message asks for a truncation, and its one turn at the cabinet was this truncation and was answered so
-pub record HasCutTurn (c : Catalogue) (e : HallExchange) (r : CutReply) : Type 0 where
+pub record HasCutTurn (c : Catalogue) (recipes : RecipeBook) (e : HallExchange) (r : CutReply) : Type 0 where
   pub cover : Cover
-  pub asks : AsksFor c e.message (request.Truncation cover)
+  pub asks : AsksFor c recipes e.message (request.Truncation cover)
   pub turn : Made Note
   pub one : e.gained ≡ turn ∷ []
   pub of : IsOf (command.Cut cover) (reply.Cut r) turn
 
 -- the message asks for an expiry, and its one turn was one and was answered so
-pub record HasExpiryTurn (c : Catalogue) (e : HallExchange) (r : Expired) : Type 0 where
-  pub asks : AsksFor c e.message request.Expiry
+pub record HasExpiryTurn (c : Catalogue) (recipes : RecipeBook) (e : HallExchange) (r : Expired) : Type 0 where
+  pub asks : AsksFor c recipes e.message request.Expiry
   pub turn : Made Note
   pub one : e.gained ≡ turn ∷ []
   pub of : IsOf command.Expire (reply.Expired r) turn
@@ -93,11 +114,11 @@ pub record HasExpiryTurn (c : Catalogue) (e : HallExchange) (r : Expired) : Type
 abbrev pub DiskFailedIn : Made Note → Type 0
 DiskFailedIn turn = Rose turn.note.before.faults turn.note.after.faults
 
-abbrev pub HasFailedCut : Catalogue → HallExchange → Type 0
-HasFailedCut c e = (b : ℕ) × (a : ℕ) × (h : HasCutTurn c e (cut.DiskFault b a)) × DiskFailedIn h.turn
+abbrev pub HasFailedCut : Catalogue → RecipeBook → HallExchange → Type 0
+HasFailedCut c recipes e = (b : ℕ) × (a : ℕ) × (h : HasCutTurn c recipes e (cut.DiskFault b a)) × DiskFailedIn h.turn
 
-abbrev pub HasFailedExpiry : Catalogue → HallExchange → Type 0
-HasFailedExpiry c e = (b : ℕ) × (a : ℕ) × (h : HasExpiryTurn c e (expired.DiskFault b a)) × DiskFailedIn h.turn
+abbrev pub HasFailedExpiry : Catalogue → RecipeBook → HallExchange → Type 0
+HasFailedExpiry c recipes e = (b : ℕ) × (a : ℕ) × (h : HasExpiryTurn c recipes e (expired.DiskFault b a)) × DiskFailedIn h.turn
 
 -- WHO ASKS FOR A JOB
 
@@ -143,29 +164,47 @@ IsJobText c e text =
     ⊎ (((n : ℕ) × (s : JobStatus) × HasStatusTurn c e n s × (text ≡ status_text n s))
     ⊎ ((found : List JobStatus) × HasStatusTurns c e found × (text ≡ statuses_text 1 found))))
 
+-- WHO ASKS FOR A COMPOSITE
+
+-- the message asks for the composite of a recipe at a place, and its turns are those of the composition, which came to this
+pub record HasComposition (c : Catalogue) (recipes : RecipeBook) (told : Bool) (e : HallExchange) (result : Result Composed ComposeFault) : Type 0 where
+  pub number : ℕ
+  pub place : TilePlace
+  pub asks : AsksForComposite c recipes e.message (composite_request.Composite number place)
+  pub composed : IsComposed c recipes told e.seen number place e.gained result
+
+-- the composition came to these numbers and this text
+pub record IsComposite (c : Catalogue) (recipes : RecipeBook) (told : Bool) (e : HallExchange) (numbers : ArrayVec ℕ) (text : List ℕ) : Type 0 where
+  pub came_to : Composed
+  pub composition : HasComposition c recipes told e (Ok came_to)
+  pub numbered : numbers.items ≡ came_to.numbers.items
+  pub is_text : text ≡ came_to.bytes.items
+
 -- WHY THIS ANSWER: each has its cause, in what the message asks for and in the turns that were made for it. Want of memory alone is free.
-abbrev pub IsCaused : Catalogue → Bool → HallExchange → Outcome → Type 0
-IsCaused c told e (outcome.Tile hit k bytes) = (a : Address) × AsksFor c e.message (request.Tile a) × HasGot c told a e.seen e.gained (record { hit = hit; number = k; bytes = bytes })
-IsCaused c told e outcome.Document = AsksFor c e.message request.Capabilities
-IsCaused c told e (outcome.Refused code locator) = AsksFor c e.message (request.Refused code locator)
-IsCaused c told e (outcome.Plain plain.NotFound) = AsksFor c e.message request.NotFound ⊎ (AsksOfJobs c e.message job_request.NotFound ⊎ HasNoJob c e)
-IsCaused c told e (outcome.Plain plain.WrongMethod) = AsksFor c e.message request.WrongMethod ⊎ AsksOfJobs c e.message job_request.WrongMethod
-IsCaused c told e outcome.SourceFailed = (a : Address) × AsksFor c e.message (request.Tile a) × HasAbandoned a e.gained × Rose e.renders_before e.renders_after
-IsCaused c told e (outcome.Plain plain.Spent) = (a : Address) × AsksFor c e.message (request.Tile a) × HasMetSpent a e.gained
-IsCaused c told e (outcome.Usage text) = AsksFor c e.message request.Usage × IsCounted c e.gained text
-IsCaused c told e (outcome.Cut k) = HasCutTurn c e (cut.Done k)
-IsCaused c told e (outcome.Plain plain.CutsFull) = HasCutTurn c e cut.Full
-IsCaused c told e (outcome.Plain plain.CutSpent) = HasCutTurn c e cut.Spent
-IsCaused c told e (outcome.Unformed fault) = AsksFor c e.message (request.Unformed fault) ⊎ AsksOfJobs c e.message (job_request.Unformed fault)
-IsCaused c told e (outcome.Dropped text) = (m : MetaKey) × HasExpiryTurn c e (expired.Dropped m) × (text ≡ dropped_text c m)
-IsCaused c told e (outcome.Plain plain.Within) = HasExpiryTurn c e expired.Within
-IsCaused c told e (outcome.Job text) = IsJobText c e text
-IsCaused c told e (outcome.Composite numbers text) = ⊥
-IsCaused c told e (outcome.Plain plain.BoardFull) = HasSubmitTurn c e None
-IsCaused c told e (outcome.Plain plain.DiskFault) = HasFailedCut c e ⊎ HasFailedExpiry c e
-IsCaused c told e (outcome.Plain plain.NoMemory) = ⊤
+abbrev pub IsCaused : Catalogue → RecipeBook → Bool → HallExchange → Outcome → Type 0
+IsCaused c recipes told e (outcome.Tile hit k bytes) = (a : Address) × AsksFor c recipes e.message (request.Tile a) × HasGot c told a e.seen e.gained (record { hit = hit; number = k; bytes = bytes })
+IsCaused c recipes told e outcome.Document = AsksFor c recipes e.message request.Capabilities
+IsCaused c recipes told e (outcome.Refused code locator) = AsksFor c recipes e.message (request.Refused code locator) ⊎ AsksForComposite c recipes e.message (composite_request.Refused code locator)
+IsCaused c recipes told e (outcome.Plain plain.NotFound) = AsksFor c recipes e.message request.NotFound ⊎ (AsksOfJobs c e.message job_request.NotFound ⊎ (HasNoJob c e ⊎ AsksForComposite c recipes e.message composite_request.NotFound))
+IsCaused c recipes told e (outcome.Plain plain.WrongMethod) = AsksFor c recipes e.message request.WrongMethod ⊎ (AsksOfJobs c e.message job_request.WrongMethod ⊎ AsksForComposite c recipes e.message composite_request.WrongMethod)
+IsCaused c recipes told e outcome.SourceFailed =
+    ((a : Address) × AsksFor c recipes e.message (request.Tile a) × HasAbandoned a e.gained × Rose e.renders_before e.renders_after)
+    ⊎ (HasComposition c recipes told e (Err compose_fault.SourceFault) × Rose e.renders_before e.renders_after)
+IsCaused c recipes told e (outcome.Plain plain.Spent) = ((a : Address) × AsksFor c recipes e.message (request.Tile a) × HasMetSpent a e.gained) ⊎ HasComposition c recipes told e (Err compose_fault.Spent)
+IsCaused c recipes told e (outcome.Usage text) = AsksFor c recipes e.message request.Usage × IsCounted c e.gained text
+IsCaused c recipes told e (outcome.Cut k) = HasCutTurn c recipes e (cut.Done k)
+IsCaused c recipes told e (outcome.Plain plain.CutsFull) = HasCutTurn c recipes e cut.Full
+IsCaused c recipes told e (outcome.Plain plain.CutSpent) = HasCutTurn c recipes e cut.Spent
+IsCaused c recipes told e (outcome.Unformed fault) = AsksFor c recipes e.message (request.Unformed fault) ⊎ AsksOfJobs c e.message (job_request.Unformed fault)
+IsCaused c recipes told e (outcome.Dropped text) = (m : MetaKey) × HasExpiryTurn c recipes e (expired.Dropped m) × (text ≡ dropped_text c m)
+IsCaused c recipes told e (outcome.Plain plain.Within) = HasExpiryTurn c recipes e expired.Within
+IsCaused c recipes told e (outcome.Job text) = IsJobText c e text
+IsCaused c recipes told e (outcome.Composite numbers text) = IsComposite c recipes told e numbers text
+IsCaused c recipes told e (outcome.Plain plain.BoardFull) = HasSubmitTurn c e None
+IsCaused c recipes told e (outcome.Plain plain.DiskFault) = HasFailedCut c recipes e ⊎ HasFailedExpiry c recipes e
+IsCaused c recipes told e (outcome.Plain plain.NoMemory) = ⊤
 
 -- both of a message
-pub record HasAnswer (c : Catalogue) (told : Bool) (e : HallExchange) : Type 0 where
+pub record HasAnswer (c : Catalogue) (recipes : RecipeBook) (told : Bool) (e : HallExchange) : Type 0 where
   pub tiles : TilesAreGiven c told e
-  pub cause : IsCaused c told e (outcome_told e)
+  pub cause : IsCaused c recipes told e (outcome_told e)

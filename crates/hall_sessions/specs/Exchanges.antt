@@ -5,6 +5,7 @@ use Rattle.catalog.specs.declared.catalogue.Catalogue.{Catalogue}
 use Rattle.base.specs.Causes.{Rose}
 use Rattle.http_wire.specs.declared.message.Message.{Message}
 use Rattle.job_board.specs.Calls.{BoardHolding}
+use Rattle.layer_recipes.specs.declared.book.RecipeBook.{RecipeBook}
 use Rattle.truncation_list.specs.declared.book.FrontedBook.{FrontedBook}
 use Rattle.turnstile.specs.declared.view.Made.{Made}
 use Rattle.cache_access.specs.Turned.{AreTurns}
@@ -17,7 +18,7 @@ use Rattle.tile_service.specs.Run.{Answer}
 use Rattle.tile_service.specs.Serving.{answer_to}
 use Rattle.hall_sessions.specs.Served.{IsMessageServed}
 
--- a message, what it asked for by the table of paths (none where it is for jobs, or no memory was left to read it), the turns that were
+-- a message, what it asked for by the table of paths (none where it is for jobs or for a composite, or no memory was left to read it), the turns that were
 -- made for it at the cabinet, its outcome, and whether memory was left for the text of its response; before it and after it the
 -- book that the pass had seen, the pass of the board, and how often the source had failed
 pub record HallExchange : Type 0 where
@@ -50,15 +51,15 @@ abbrev pub turns_of : List HallExchange → List (Made Note)
 turns_of es = flat_map (λ e. e.gained) es
 
 -- the message was served by these turns, and its outcome says that the source failed only where its count rose
-pub record IsExchange (c : Catalogue) (told : Bool) (e : HallExchange) : Type 0 where
-  pub served : IsMessageServed c told e.seen e.message e.request e.gained e.board_before e.board_after e.came_to
+pub record IsExchange (c : Catalogue) (recipes : RecipeBook) (told : Bool) (e : HallExchange) : Type 0 where
+  pub served : IsMessageServed c recipes told e.seen e.message e.request e.gained e.board_before e.board_after e.came_to
   pub turns : AreTurns c told e.seen e.gained e.sees
   pub later : e.renders_before ≤ e.renders_after
   pub cause : e.came_to ≡ outcome.SourceFailed → Rose e.renders_before e.renders_after
 
 -- one after the other: the pass had seen one book at first and sees the other one at last, and the board's pass and the source's count
 -- went from one to another
-abbrev pub AreExchanges : Catalogue → Bool → FrontedBook → BoardHolding → ℕ → List HallExchange → FrontedBook → BoardHolding → ℕ → Type 0
-AreExchanges c told seen board renders [] sees board_after after = (sees ≡ seen) × (board_after ≡ board) × (after ≡ renders)
-AreExchanges c told seen board renders (e ∷ es) sees board_after after =
-    (e.seen ≡ seen) × (e.board_before ≡ board) × (e.renders_before ≡ renders) × IsExchange c told e × AreExchanges c told e.sees e.board_after e.renders_after es sees board_after after
+abbrev pub AreExchanges : Catalogue → RecipeBook → Bool → FrontedBook → BoardHolding → ℕ → List HallExchange → FrontedBook → BoardHolding → ℕ → Type 0
+AreExchanges c recipes told seen board renders [] sees board_after after = (sees ≡ seen) × (board_after ≡ board) × (after ≡ renders)
+AreExchanges c recipes told seen board renders (e ∷ es) sees board_after after =
+    (e.seen ≡ seen) × (e.board_before ≡ board) × (e.renders_before ≡ renders) × IsExchange c recipes told e × AreExchanges c recipes told e.sees e.board_after e.renders_after es sees board_after after

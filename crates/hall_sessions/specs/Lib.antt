@@ -1,3 +1,4 @@
+pub mod Composites
 pub mod Served
 pub mod Requested
 pub mod Exchanges

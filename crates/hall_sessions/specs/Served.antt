@@ -2,11 +2,14 @@
 use Rattle.std.specs.Prelude.{ℕ, ◌≡◌, ◌≤◌, ◌⊎◌, Bool, true, List, [], Option, Some, None, MatchOption}
 use Rattle.cabinet_chest.specs.declared.shown.Note.{Note}
 use Rattle.catalog.specs.declared.catalogue.Catalogue.{Catalogue}
+use Rattle.composite_requests.specs.declared.request.CompositeRequest.{CompositeRequest}
+use Rattle.composite_requests.specs.Routes.{request_for as composite_request_for}
 use Rattle.http_wire.specs.declared.message.Message.{Message}
 use Rattle.job_board.specs.Calls.{BoardHolding}
 use Rattle.job_requests.specs.declared.request.JobRequest.{JobRequest}
 use Rattle.job_requests.specs.Routes.{request_for as job_request_for}
 use Rattle.job_requests.specs.Served.{ServesJob}
+use Rattle.layer_recipes.specs.declared.book.RecipeBook.{RecipeBook}
 use Rattle.truncation_list.specs.declared.book.FrontedBook.{FrontedBook}
 use Rattle.turnstile.specs.declared.view.Made.{Made}
 use Rattle.cache_hall.specs.Turned.{GainsTurns, HallPass}
@@ -18,6 +21,7 @@ use Rattle.tile_requests.specs.declared.outcome.Plain.TheVariants as plain
 use Rattle.tile_requests.specs.declared.request.Request.{Request}
 use Rattle.tile_requests.specs.Routes.{request_for}
 use Rattle.tile_requests.specs.Served.{IsRequestServed as IsRequestServedIf}
+use Rattle.hall_sessions.specs.Composites.{IsCompositeServed}
 
 -- ANY REQUEST, by a pass that had seen this book: the turns that it made, and the outcome; a tile's bytes are the encoded tile's, if the
 -- pass is told that the cabinet is sound
@@ -34,24 +38,33 @@ IsUnread gained o = (gained ≡ []) × (o ≡ outcome.Plain plain.NoMemory)
 abbrev pub IsJobMessageServed : Catalogue → JobRequest → List (Made Note) → BoardHolding → BoardHolding → Outcome → Type 0
 IsJobMessageServed c r gained board_before board_after o = ((gained ≡ []) × ServesJob c r board_before board_after o) ⊎ (IsUnread gained o × (board_after ≡ board_before))
 
+-- one for a composite, which asks for this: by the turns of a composition, unless no memory was left to read it
+abbrev pub IsCompositeMessageServed : Catalogue → RecipeBook → Bool → FrontedBook → CompositeRequest → List (Made Note) → Outcome → Type 0
+IsCompositeMessageServed c recipes told seen r gained o = IsCompositeServed c recipes told seen r gained o ⊎ IsUnread gained o
+
 -- any other: what it asks for by the table of paths is served, unless no memory was left to read it
 abbrev pub IsOtherMessageServed : Catalogue → Bool → FrontedBook → Message → Option Request → List (Made Note) → Outcome → Type 0
 IsOtherMessageServed c told seen m None gained o = IsUnread gained o
 IsOtherMessageServed c told seen m (Some r) gained o = (r ≡ request_for c m) × IsRequestServed c told seen r gained o
 
+-- one that isn't for jobs: one for a composite, if the server's recipes have it so, or any other
+abbrev pub IsCacheMessageServed : Catalogue → RecipeBook → Bool → FrontedBook → Message → Option Request → List (Made Note) → Outcome → Type 0
+IsCacheMessageServed c recipes told seen m request gained o =
+    MatchOption (composite_request_for c recipes m) (IsOtherMessageServed c told seen m request gained o) (λ r. IsCompositeMessageServed c recipes told seen r gained o × (request ≡ None))
+
 -- one for jobs asks nothing of the cabinet, and any other asks nothing of the board
-abbrev pub IsMessageServed : Catalogue → Bool → FrontedBook → Message → Option Request → List (Made Note) → BoardHolding → BoardHolding → Outcome → Type 0
-IsMessageServed c told seen m request gained board_before board_after o =
-    MatchOption (job_request_for c m) (IsOtherMessageServed c told seen m request gained o × (board_after ≡ board_before)) (λ r. IsJobMessageServed c r gained board_before board_after o × (request ≡ None))
+abbrev pub IsMessageServed : Catalogue → RecipeBook → Bool → FrontedBook → Message → Option Request → List (Made Note) → BoardHolding → BoardHolding → Outcome → Type 0
+IsMessageServed c recipes told seen m request gained board_before board_after o =
+    MatchOption (job_request_for c m) (IsCacheMessageServed c recipes told seen m request gained o × (board_after ≡ board_before)) (λ r. IsJobMessageServed c r gained board_before board_after o × (request ≡ None))
 
 -- a message was served over a hall and a board, while its source went from one count of faults to another: it failed only where that rose
-pub record ServesOverHall (c : Catalogue) (renders_before renders_after : ℕ) (m : Message) (before after : HallPass) (board_before board_after : BoardHolding) (o : Outcome) : Type 0 where
+pub record ServesOverHall (c : Catalogue) (recipes : RecipeBook) (renders_before renders_after : ℕ) (m : Message) (before after : HallPass) (board_before board_after : BoardHolding) (o : Outcome) : Type 0 where
   pub gained : List (Made Note)
   pub gains : GainsTurns c before after gained
   pub request : Option Request
-  pub served : IsMessageServed c before.told before.book m request gained board_before board_after o
+  pub served : IsMessageServed c recipes before.told before.book m request gained board_before board_after o
   pub cause : o ≡ outcome.SourceFailed → Rose renders_before renders_after
 
 -- the same from one standing of a hall and a board to another, while the source's count doesn't fall
-abbrev pub ServesLater : Catalogue → Message → Outcome → ServerStanding HallPass BoardHolding → ServerStanding HallPass BoardHolding → Type 0
-ServesLater c m o before after = ServesOverHall c before.failures after.failures m before.cache after.cache before.jobs after.jobs o × (before.failures ≤ after.failures)
+abbrev pub ServesLater : Catalogue → RecipeBook → Message → Outcome → ServerStanding HallPass BoardHolding → ServerStanding HallPass BoardHolding → Type 0
+ServesLater c recipes m o before after = ServesOverHall c recipes before.failures after.failures m before.cache after.cache before.jobs after.jobs o × (before.failures ≤ after.failures)

@@ -4,6 +4,7 @@ ghost use Rattle.cache_hall.specs.Turned.{IsPassOf};
 ghost use Rattle.catalog.specs.Valid.{IsValid};
 ghost use Rattle.hall_sessions.specs.Served.{ServesLater};
 ghost use Rattle.job_board.specs.Calls.{IsBoardPass};
+ghost use Rattle.layer_recipes.specs.Books.{IsBookOf};
 
 use crate::requests::serve;
 use crate::world::World;
@@ -32,11 +33,11 @@ impl<R: Wait, K: Keeper> MessageServer for HallServer<'_, R, K> {
 
     type Jobs = BoardPass;
 
-    ghost ready = { λ server pass board told. IsPassOf server.world.now.hall.turnstile.table server.world.now.hall.catalogue pass × IsValid server.world.now.hall.catalogue × (pass.told ≡ true → told ≡ Some server.world.now.hall.catalogue.source) × IsBoardPass server.world.now.board.turnstile.table board };
+    ghost ready = { λ server pass board told. IsPassOf server.world.now.hall.turnstile.table server.world.now.hall.catalogue pass × IsValid server.world.now.hall.catalogue × (pass.told ≡ true → told ≡ Some server.world.now.hall.catalogue.source) × IsBoardPass server.world.now.board.turnstile.table board × IsBookOf server.world.now.hall.catalogue server.world.now.recipes };
 
     ghost document = { λ server _. server.world.now.capabilities };
 
-    ghost serves = { λ server _ m o before after. ServesLater server.world.now.hall.catalogue m o before after };
+    ghost serves = { λ server _ m o before after. ServesLater server.world.now.hall.catalogue server.world.now.recipes m o before after };
 
     fn serve<S: Source>(
         &self,

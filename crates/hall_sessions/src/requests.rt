@@ -5,12 +5,15 @@ ghost use Rattle.catalog.specs.Valid.{IsValid};
 ghost use Rattle.hall_sessions.specs.Requested.{ServesRequest};
 ghost use Rattle.hall_sessions.specs.Served.{ServesOverHall};
 ghost use Rattle.job_board.specs.Calls.{IsBoardPass};
+ghost use Rattle.layer_recipes.specs.Books.{IsBookOf};
 ghost use Rattle.tile_requests.specs.Requests.{IsOf};
 
+use crate::composites::serve_composite;
 use crate::world::World;
 use cabinet::Keeper;
 use cabinet_chest::CabinetChest;
 use cache_hall::{Hall, Shared};
+use composite_requests::read_composite_request;
 use http_wire::Message;
 use job_board::BoardPass;
 use job_requests::{read_job_request, serve_job};
@@ -41,8 +44,8 @@ fn serve_request<R: Wait, K: Keeper, S: Source>(
     answer(&Shared { rt, hall }, alloc, pass, source, request)
 }
 
-/// Serves a message: at the board where it is for jobs, and else what it asks for by the table of paths. Where memory runs out, its
-/// outcome says so.
+/// Serves a message: at the board if it is for jobs, else by a composition if it is for a composite, and else what it asks for by the table
+/// of paths. Where memory runs out, its outcome says so.
 pub fn serve<R: Wait, K: Keeper, S: Source>(
     rt: &R,
     alloc: Global,
@@ -56,7 +59,8 @@ pub fn serve<R: Wait, K: Keeper, S: Source>(
     requires valid { IsValid world.now.hall.catalogue }
     requires source { pass.old.told ≡ true → S.told source.old ≡ Some world.now.hall.catalogue.source }
     requires board { IsBoardPass world.now.board.turnstile.table board.old }
-    ensures serves { ServesOverHall world.now.hall.catalogue (S.faults source.old) (S.faults source.new) message.now pass.old pass.new board.old board.new result }
+    requires recipes { IsBookOf world.now.hall.catalogue world.now.recipes }
+    ensures serves { ServesOverHall world.now.hall.catalogue world.now.recipes (S.faults source.old) (S.faults source.new) message.now pass.old pass.new board.old board.new result }
     ensures of { IsPassOf world.now.hall.turnstile.table world.now.hall.catalogue pass.new }
     ensures board { IsBoardPass world.now.board.turnstile.table board.new }
     ensures later { S.faults source.old ≤ S.faults source.new }
@@ -64,12 +68,19 @@ pub fn serve<R: Wait, K: Keeper, S: Source>(
 {
     let parts = MessageRef::of(message);
     let catalogue = &world.hall.catalogue;
+    let recipes = &world.recipes;
     match read_job_request(alloc, catalogue, &parts) {
         Err(_) => Outcome::Plain(Plain::NoMemory),
         Ok(Some(request)) => serve_job(rt, alloc, catalogue, &world.board, board, request),
-        Ok(None) => match read_request(alloc, catalogue, &world.tables.rest, &parts) {
+        Ok(None) => match read_composite_request(alloc, catalogue, recipes, &parts) {
             Err(_) => Outcome::Plain(Plain::NoMemory),
-            Ok(request) => serve_request(rt, alloc, &world.hall, pass, source, request),
+            Ok(Some(request)) => {
+                serve_composite(rt, alloc, &world.hall, recipes, pass, source, request)
+            }
+            Ok(None) => match read_request(alloc, catalogue, &world.tables.rest, &parts) {
+                Err(_) => Outcome::Plain(Plain::NoMemory),
+                Ok(request) => serve_request(rt, alloc, &world.hall, pass, source, request),
+            },
         },
     }
 }

@@ -4,6 +4,7 @@ ghost use Rattle.cache_hall.specs.Turned.{IsPassOf};
 ghost use Rattle.catalog.specs.Valid.{IsValid};
 ghost use Rattle.hall_sessions.specs.Sessions.{HasHallSession, output_of};
 ghost use Rattle.job_board.specs.Calls.{IsBoardPass};
+ghost use Rattle.layer_recipes.specs.Books.{IsBookOf};
 ghost use Rattle.sessions.specs.Outside.{counts};
 
 use crate::hall_server::HallServer;
@@ -19,8 +20,8 @@ use std::sync::Wait;
 use turnstile::Pass;
 
 /// Serves the messages of one connection (RFC 9112) over a hall and a board of jobs, in order, each before the next is looked for, at
-/// most 10,000 of them. Who asks for a tile gets it, or 503, unless the source failed for it or no number of a render is left. Each end
-/// comes as `SessionEnd` says.
+/// most 10,000 of them. Who asks for a tile gets it, or 503, unless the source failed for it or no number of a render is left. A
+/// composite that is answered is that of tiles which were got for it, one for each part of its recipe. Each end comes as `SessionEnd` says.
 pub fn serve_session<R: Wait, K: Keeper, S: Source, L: Link>(
     rt: &R,
     alloc: Global,
@@ -34,10 +35,11 @@ pub fn serve_session<R: Wait, K: Keeper, S: Source, L: Link>(
     requires valid { IsValid world.now.hall.catalogue }
     requires source { pass.old.told ≡ true → S.told source.old ≡ Some world.now.hall.catalogue.source }
     requires board { IsBoardPass world.now.board.turnstile.table board.old }
+    requires recipes { IsBookOf world.now.hall.catalogue world.now.recipes }
     ensures session { HasHallSession
         (record { reads = counts (L.ByteSource.faults link.old) (L.ByteSource.faults link.new); from = L.left link.old; to = L.left link.new })
         (output_of (counts (L.ByteSink.faults link.old) (L.ByteSink.faults link.new)) (L.taken link.old) (L.taken link.new))
-        (counts (S.faults source.old) (S.faults source.new)) world.now.capabilities world.now.hall.catalogue pass.old pass.new board.old board.new result }
+        (counts (S.faults source.old) (S.faults source.new)) world.now.capabilities world.now.hall.catalogue world.now.recipes pass.old pass.new board.old board.new result }
     ensures of { IsPassOf world.now.hall.turnstile.table world.now.hall.catalogue pass.new }
     ensures board { IsBoardPass world.now.board.turnstile.table board.new }
     ensures told { S.told source.new ≡ S.told source.old }

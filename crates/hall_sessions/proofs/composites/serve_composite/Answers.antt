@@ -1,0 +1,15 @@
+use Rattle.std.proofs.Common.{refl}
+use Rattle.hall_sessions.proofs.Composed.{composition_served, served_at_once}
+use Rattle.hall_sessions.proofs.composites.serve_composite.Goals as goal
+
+pub returns-in-Composite-clause-serves : goal.returns-in-Composite-clause-serves
+returns-in-Composite-clause-serves g c = rw c.in-Composite.is (composition_served _ _ _ _ _ _ _ _ _ _ c.recipe_at-recipe.ensures c.serve_composition.ensures.serves)
+
+pub returns-in-Refused-clause-serves : goal.returns-in-Refused-clause-serves
+returns-in-Refused-clause-serves g c = rw c.in-Refused.is (served_at_once _ _ _ _ _ _ _ (refl, refl) (λ failed. absurd (cc)))
+
+pub returns-in-NotFound-clause-serves : goal.returns-in-NotFound-clause-serves
+returns-in-NotFound-clause-serves g c = rw c.in-NotFound.is (served_at_once _ _ _ _ _ _ _ (refl, refl) (λ failed. absurd (cc)))
+
+pub returns-in-WrongMethod-clause-serves : goal.returns-in-WrongMethod-clause-serves
+returns-in-WrongMethod-clause-serves g c = rw c.in-WrongMethod.is (served_at_once _ _ _ _ _ _ _ (refl, refl) (λ failed. absurd (cc)))
