@@ -1,1 +1,3 @@
 pub mod Closing
+pub mod Reciting
+pub mod Unready

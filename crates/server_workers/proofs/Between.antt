@@ -26,6 +26,7 @@ use Rattle.catalog.specs.LookUp.{IsTile}
 use Rattle.catalog.specs.Valid.{IsValid}
 use Rattle.hall_sessions.specs.Exchanges.{AreExchanges, HallExchange, turns_of}
 use Rattle.job_board.specs.Calls.{BoardHolding}
+use Rattle.layer_recipes.specs.declared.book.RecipeBook.{RecipeBook}
 use Rattle.matrix_geometry.specs.declared.address.Address.{Address}
 use Rattle.truncation_list.specs.declared.book.Cut.{Cut}
 use Rattle.truncation_list.specs.declared.book.FrontedBook.{FrontedBook}
@@ -64,12 +65,12 @@ module _ (c : Catalogue) where
   of_turns told seen left [] turns m (k, lt, _) = absurd (omega (arith, lt))
   of_turns told seen left (x ∷ xs) turns m at = ⊎_elim (λ (e : x ≡ m). subst (IsTurnAt c) e record { told = told; seen = seen; is = turns.0 }) (λ (d : Contains xs m). of_turns told (left_by x) left xs turns.1 m d) (first_or_later x m xs at)
 
-  of_exchanges : (told : Bool) (seen : FrontedBook) (board : BoardHolding) (renders : ℕ) (es : List HallExchange) (sees : FrontedBook) (board_after : BoardHolding) (after : ℕ) → AreExchanges c told seen board renders es sees board_after after
+  of_exchanges : (book : RecipeBook) (told : Bool) (seen : FrontedBook) (board : BoardHolding) (renders : ℕ) (es : List HallExchange) (sees : FrontedBook) (board_after : BoardHolding) (after : ℕ) → AreExchanges c book told seen board renders es sees board_after after
       → (m : Made Note) → Contains (turns_of es) m → IsTurnAt c m
-  of_exchanges told seen board renders [] sees board_after after are m (k, lt, _) = absurd (omega (arith, lt))
-  of_exchanges told seen board renders (e ∷ es) sees board_after after are m at =
+  of_exchanges book told seen board renders [] sees board_after after are m (k, lt, _) = absurd (omega (arith, lt))
+  of_exchanges book told seen board renders (e ∷ es) sees board_after after are m at =
       ⊎_elim (λ (mine : Contains e.gained m). of_turns told e.seen e.sees e.gained are.3.turns m mine)
-      (λ (later : Contains (turns_of es) m). of_exchanges told e.sees e.board_after e.renders_after es sees board_after after are.4 m later)
+      (λ (later : Contains (turns_of es) m). of_exchanges book told e.sees e.board_after e.renders_after es sees board_after after are.4 m later)
       (Contains-append_cases e.gained (turns_of es) m at)
 
   -- a pass that made more of them
@@ -85,7 +86,7 @@ module _ {L : Type 0} (s : Service L) where
       let session = held.3 in
       of_sessions h.pass_after h.board_after h.renders.after hs left board_after after held.4
       (more_turns s.catalogue h.pass h.pass_after (turns_of session.exchanges) (ap (λ (p : HallPass). p.made) session.made) (subst (HasTurnsAt s.catalogue) (sym held.0) had)
-      (of_exchanges s.catalogue h.pass.told h.pass.book h.board h.renders.before session.exchanges h.pass_after.book h.board_after h.renders.after session.served))
+      (of_exchanges s.catalogue s.recipes h.pass.told h.pass.book h.board h.renders.before session.exchanges h.pass_after.book h.board_after h.renders.after session.served))
 
   pub of_stints : (ts : List (Stint L)) → s.first.made ≡ [] → AllByRecursion (IsStint s) ts → (p : HallPass) → Contains (passes_of ts) p → HasTurnsAt s.catalogue p
   of_stints [] none are p (k, lt, _) = absurd (omega (arith, lt))

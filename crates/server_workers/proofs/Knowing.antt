@@ -3,11 +3,11 @@ use Rattle.std.proofs.Common.{arith, ◌≡◌, ◌∙◌, ℕ, suc, ◌+◌, �
 use Rattle.std.proofs.lemmas.List.Elements.{All-contains, Contains-append_cases}
 use Rattle.std.specs.List.{All, AllByRecursion, Contains}
 use Rattle.std.specs.Prelude.{◌⊎◌, MatchOption}
-use Rattle.cabinet_chest.specs.declared.shown.BoardNote as hall
+use Rattle.cabinet_chest.specs.declared.shown.Note as hall
 use Rattle.cache_hall.specs.Turned.{HallPass}
 use Rattle.catalog.specs.declared.catalogue.Catalogue.{Catalogue}
 use Rattle.hall_sessions.specs.Exchanges.{AreExchanges, HallExchange}
-use Rattle.hall_sessions.specs.Served.{IsJobMessageServed, IsMessageServed, IsOtherMessageServed}
+use Rattle.hall_sessions.specs.Served.{IsCacheMessageServed, IsJobMessageServed, IsMessageServed}
 use Rattle.http_wire.specs.declared.message.Message.{Message}
 use Rattle.job_board.specs.declared.shown.BoardCommand.{BoardCommand}
 use Rattle.job_board.specs.declared.shown.BoardCommand.TheVariants as command
@@ -22,6 +22,7 @@ use Rattle.job_requests.specs.declared.request.JobRequest.TheVariants as request
 use Rattle.job_requests.specs.Routes.{request_for}
 use Rattle.job_requests.specs.Served.{AreAllJobs, AreLooks, IsLookServed, ServesJob}
 use Rattle.job_board.specs.declared.status.JobStatus.{JobStatus}
+use Rattle.layer_recipes.specs.declared.book.RecipeBook.{RecipeBook}
 use Rattle.seed_jobs.proofs.History.{turn_knows}
 use Rattle.tile_requests.specs.declared.outcome.Outcome.{Outcome}
 use Rattle.tile_requests.specs.declared.request.Request.{Request}
@@ -100,25 +101,25 @@ after_request c request.Statuses before after o all had = after_statuses all.fou
 after_request c request.NotFound before after o none had = same_place before after none.0 had
 after_request c request.WrongMethod before after o none had = same_place before after none.0 had
 
-after_job_message : (c : Catalogue) (r : JobRequest) (gained : List (Made hall.BoardNote)) (before after : BoardHolding) (o : Outcome) → IsJobMessageServed c r gained before after o → KnowsOwn before → KnowsOwn after
+after_job_message : (c : Catalogue) (r : JobRequest) (gained : List (Made hall.Note)) (before after : BoardHolding) (o : Outcome) → IsJobMessageServed c r gained before after o → KnowsOwn before → KnowsOwn after
 after_job_message c r gained before after o (inl served) had = after_request c r before after o served.1 had
 after_job_message c r gained before after o (inr unread) had = same_place before after unread.1 had
 
 -- one for jobs, or another one
-after_either : (c : Catalogue) (r : Option JobRequest) (gained : List (Made hall.BoardNote)) (before after : BoardHolding) (o : Outcome) (Other Unasked : Type 0) → MatchOption r (Other × (after ≡ before)) (λ j. IsJobMessageServed c j gained before after o × Unasked) → KnowsOwn before
+after_either : (c : Catalogue) (r : Option JobRequest) (gained : List (Made hall.Note)) (before after : BoardHolding) (o : Outcome) (Other Unasked : Type 0) → MatchOption r (Other × (after ≡ before)) (λ j. IsJobMessageServed c j gained before after o × Unasked) → KnowsOwn before
     → KnowsOwn after
 after_either c None gained before after o Other Unasked served had = same_place before after served.1 had
 after_either c (Some r) gained before after o Other Unasked served had = after_job_message c r gained before after o served.0 had
 
-after_message : (c : Catalogue) (told : Bool) (seen : FrontedBook) (m : Message) (asked : Option Request) (gained : List (Made hall.BoardNote)) (before after : BoardHolding) (o : Outcome) → IsMessageServed c told seen m asked gained before after o → KnowsOwn before → KnowsOwn after
-after_message c told seen m asked gained before after o served had = after_either c (request_for c m) gained before after o (IsOtherMessageServed c told seen m asked gained o) (asked ≡ None) served had
+after_message : (c : Catalogue) (book : RecipeBook) (told : Bool) (seen : FrontedBook) (m : Message) (asked : Option Request) (gained : List (Made hall.Note)) (before after : BoardHolding) (o : Outcome) → IsMessageServed c book told seen m asked gained before after o → KnowsOwn before → KnowsOwn after
+after_message c book told seen m asked gained before after o served had = after_either c (request_for c m) gained before after o (IsCacheMessageServed c book told seen m asked gained o) (asked ≡ None) served had
 
 -- SESSIONS
 
-after_exchanges : (c : Catalogue) (told : Bool) (seen : FrontedBook) (board : BoardHolding) (renders : ℕ) (es : List HallExchange) (sees : FrontedBook) (board_after : BoardHolding) (after : ℕ) → AreExchanges c told seen board renders es sees board_after after → KnowsOwn board → KnowsOwn board_after
-after_exchanges c told seen board renders [] sees board_after after are had = same_place board board_after are.1 had
-after_exchanges c told seen board renders (e ∷ es) sees board_after after are had =
-    after_exchanges c told e.sees e.board_after e.renders_after es sees board_after after are.4 (after_message c told e.seen e.message e.request e.gained e.board_before e.board_after e.came_to are.3.served (same_place board e.board_before are.1 had))
+after_exchanges : (c : Catalogue) (book : RecipeBook) (told : Bool) (seen : FrontedBook) (board : BoardHolding) (renders : ℕ) (es : List HallExchange) (sees : FrontedBook) (board_after : BoardHolding) (after : ℕ) → AreExchanges c book told seen board renders es sees board_after after → KnowsOwn board → KnowsOwn board_after
+after_exchanges c book told seen board renders [] sees board_after after are had = same_place board board_after are.1 had
+after_exchanges c book told seen board renders (e ∷ es) sees board_after after are had =
+    after_exchanges c book told e.sees e.board_after e.renders_after es sees board_after after are.4 (after_message c book told e.seen e.message e.request e.gained e.board_before e.board_after e.came_to are.3.served (same_place board e.board_before are.1 had))
 
 module _ {L : Type 0} (s : Service L) where
   after_sessions : (pass : HallPass) (board : BoardHolding) (renders : ℕ) (hs : List (HeldSession L)) (left : HallPass) (board_after : BoardHolding) (after : ℕ) → AreHeld s pass board renders hs left board_after after → KnowsOwn board → KnowsOwn board_after
@@ -126,7 +127,7 @@ module _ {L : Type 0} (s : Service L) where
   after_sessions pass board renders (h ∷ hs) left board_after after held had =
       let session = held.3 in
       after_sessions h.pass_after h.board_after h.renders.after hs left board_after after held.4
-      (after_exchanges s.catalogue h.pass.told h.pass.book h.board h.renders.before session.exchanges h.pass_after.book h.board_after h.renders.after session.served (same_place board h.board held.1 had))
+      (after_exchanges s.catalogue s.recipes h.pass.told h.pass.book h.board h.renders.before session.exchanges h.pass_after.book h.board_after h.renders.after session.served (same_place board h.board held.1 had))
 
   of_stints : (ts : List (Stint L)) → AllByRecursion (IsStint s) ts → (p : BoardHolding) → Contains (boards_of ts) p → KnowsOwn p
   of_stints [] are p (k, lt, _) = absurd (omega (arith, lt))

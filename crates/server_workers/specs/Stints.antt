@@ -6,6 +6,7 @@ use Rattle.catalog.specs.declared.catalogue.Catalogue.{Catalogue}
 use Rattle.cache_hall.specs.Turned.{HallPass}
 use Rattle.hall_sessions.specs.Sessions.{HasHallSession, output_of}
 use Rattle.job_board.specs.Calls.{BoardHolding, IsFirstBoardPass}
+use Rattle.layer_recipes.specs.declared.book.RecipeBook.{RecipeBook}
 use Rattle.link_queue.specs.Weights.{WeighAlike}
 use Rattle.sessions.specs.Outside.{FaultCounts, counts}
 use Rattle.sessions.specs.declared.session.SessionEnd.{SessionEnd}
@@ -48,24 +49,26 @@ passes_of stints = map (λ t. t.pass) stints
 abbrev pub boards_of : {L : Type 0} → List (Stint L) → List BoardHolding
 boards_of stints = map (λ t. t.board) stints
 
--- what is served: how its links are read, the capabilities document, the catalogue, the board of jobs, and a pass of its hall that has made
--- nothing yet
+-- what is served: how its links are read, the capabilities document, the catalogue, the recipes of composites, the board of jobs, and a pass
+-- of its hall that has made nothing yet
 pub record Service (L : Type 0) : Type 0 where
   pub reading : LinkReading L
   pub document : List ℕ
   pub catalogue : Catalogue
+  pub recipes : RecipeBook
   pub board : TableId
   pub first : HallPass
 
-abbrev pub serving : {L : Type 0} → (left taken : L → Option (List ℕ)) → (reads writes : L → ℕ) → List ℕ → Catalogue → TableId → HallPass → Service L
-serving left taken reads writes document c board first = record { reading = record { left = left; taken = taken; reads = reads; writes = writes }; document = document; catalogue = c; board = board; first = first }
+abbrev pub serving : {L : Type 0} → (left taken : L → Option (List ℕ)) → (reads writes : L → ℕ) → List ℕ → Catalogue → RecipeBook → TableId → HallPass → Service L
+serving left taken reads writes document c recipes board first =
+    record { reading = record { left = left; taken = taken; reads = reads; writes = writes }; document = document; catalogue = c; recipes = recipes; board = board; first = first }
 
 module _ {L : Type 0} (s : Service L) where
   abbrev pub IsHeld : HeldSession L → Type 0
   IsHeld h =
       HasHallSession
       (record { reads = counts (s.reading.reads h.link) (s.reading.reads h.link_after); from = s.reading.left h.link; to = s.reading.left h.link_after })
-      (output_of (counts (s.reading.writes h.link) (s.reading.writes h.link_after)) (s.reading.taken h.link) (s.reading.taken h.link_after)) h.renders s.document s.catalogue h.pass h.pass_after h.board h.board_after h.end
+      (output_of (counts (s.reading.writes h.link) (s.reading.writes h.link_after)) (s.reading.taken h.link) (s.reading.taken h.link_after)) h.renders s.document s.catalogue s.recipes h.pass h.pass_after h.board h.board_after h.end
 
   -- sessions one after the other, each by the pass, with the place at the board and with the source that the one before left
   abbrev pub AreHeld : HallPass → BoardHolding → ℕ → List (HeldSession L) → HallPass → BoardHolding → ℕ → Type 0

@@ -35,7 +35,7 @@ module _ {K : Type 0} where
 
   -- what is served with what the threads share, to links that are read so, under this first pass
   abbrev pub service_of : {L : Type 0} → (left taken : L → Option (List ℕ)) → (reads writes : L → ℕ) → World K → HallPass → Service L
-  service_of left taken reads writes w first = serving left taken reads writes w.capabilities w.hall.catalogue w.board.turnstile.table first
+  service_of left taken reads writes w first = serving left taken reads writes w.capabilities w.hall.catalogue w.recipes w.board.turnstile.table first
 
 module _ {K S L : Type 0} (tells : S → Option ℕ) (faults : S → ℕ) where
   abbrev pub worker_of : code.Worker K S L → SessionWorker L

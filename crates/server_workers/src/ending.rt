@@ -3,6 +3,7 @@ ghost use Rattle.std.specs.Prelude.{All, length, vec_capacity, [], ◌+◌, ◌<
 ghost use Rattle.cache_hall.specs.Turned.{HallPass};
 ghost use Rattle.catalog.specs.Valid.{IsValid};
 ghost use Rattle.crossbeam_queue.specs.Passes.{view};
+ghost use Rattle.layer_recipes.specs.Books.{IsBookOf};
 ghost use Rattle.link_queue.specs.Hands.{IsHand, all_parts, hand, table_of};
 ghost use Rattle.seed_jobs.specs.Idles as idles;
 ghost use Rattle.server_workers.specs.Crew.{AreServedBy, HasGathered};
@@ -81,6 +82,7 @@ pub(crate) fn serve_rest<R: Wait + std::time::Clock, K: Keeper, S: Source, L: Li
     requires parts { (view mine).parts + length workers.items ≡ all_parts }
     requires ready { MayAllServe S.told S.faults (place_of world.now (table_of queue.now.links)) workers.items }
     requires runner { idles.IsStandbyReady world.now.board.turnstile.table world.now.hall.turnstile.table world.now.hall.catalogue runner.old }
+    requires book { IsBookOf world.now.hall.catalogue world.now.recipes }
     ensures of { All (λ p. p.table ≡ world.now.hall.turnstile.table) result.items }
     ensures count { length result.items ≡ length workers.items }
     ensures room { vec_capacity result ≡ vec_capacity passes }
@@ -122,6 +124,7 @@ pub(crate) fn close<K: Keeper>(world: World<K>, passes: Vec<Pass<CabinetChest<K>
         capabilities: _,
         board: _,
         traffic: _,
+        recipes: _,
     } = world;
     match hall.close(passes) {
         Ok(cabinet) => drop(cabinet),

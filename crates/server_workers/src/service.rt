@@ -2,6 +2,7 @@
 ghost use Rattle.std.specs.Prelude.{All, IfErr, IfOk, Some, [], length, ◌≡◌};
 ghost use Rattle.cache_hall.specs.Turned.{HallPass};
 ghost use Rattle.catalog.specs.Valid.{IsValid};
+ghost use Rattle.layer_recipes.specs.Books.{IsBookOf};
 ghost use Rattle.link_queue.specs.Hands.{IsHand, all_parts, hand, table_of};
 ghost use Rattle.server_workers.specs.Crew.{AreSupplies};
 ghost use Rattle.server_workers.specs.Served.{HasEndedOver};
@@ -56,6 +57,7 @@ where
     requires count { (length stage.passes.items ≡ PASSES) × (stage.world.hall.turnstile.passes ≡ PASSES) }
     requires boards { length stage.boards.items ≡ BOARD_PASSES }
     requires supplied { IsSupplied stage.world.hall.turnstile.table (service_of N.L.left N.L.taken N.L.ByteSource.faults N.L.ByteSink.faults stage.world) S.told stage.passes.items stage.boards.items sources.items }
+    requires book { IsBookOf stage.world.hall.catalogue stage.world.recipes }
     ensures { (first : HallPass)
         → AreSupplies (service_of N.L.left N.L.taken N.L.ByteSource.faults N.L.ByteSink.faults stage.world first) S.told stage.passes.items stage.boards.items sources.items
         → HasEndedOver (service_of N.L.left N.L.taken N.L.ByteSource.faults N.L.ByteSink.faults stage.world first)
@@ -113,6 +115,7 @@ where
     requires boards { length supplies.boards.items ≡ BOARD_PASSES }
     requires sources { length supplies.sources.items ≡ SOURCES }
     requires supplied { IsSupplied world.now.hall.turnstile.table (service_of N.L.left N.L.taken N.L.ByteSource.faults N.L.ByteSink.faults world.now) S.told supplies.passes.items supplies.boards.items supplies.sources.items }
+    requires book { IsBookOf world.now.hall.catalogue world.now.recipes }
     ensures of { IfOk result (λ s. All (λ p. p.table ≡ world.now.hall.turnstile.table) s.passes.items) }
     ensures count { IfOk result (λ s. length s.passes.items ≡ PASSES) }
     ensures served { (first : HallPass) → first.charter ≡ Some world.now.hall.catalogue
@@ -161,6 +164,7 @@ where
     requires sources { length supplies.sources.items ≡ SOURCES }
     requires acceptor { IsHand (table_of queue.now.links) (hand all_parts [] []) acceptor }
     requires supplied { IsSupplied world.now.hall.turnstile.table (service_of N.L.left N.L.taken N.L.ByteSource.faults N.L.ByteSink.faults world.now) S.told supplies.passes.items supplies.boards.items supplies.sources.items }
+    requires book { IsBookOf world.now.hall.catalogue world.now.recipes }
     ensures of { IfOk result (λ s. All (λ p. p.table ≡ world.now.hall.turnstile.table) s.passes.items) }
     ensures count { IfOk result (λ s. length s.passes.items ≡ PASSES) }
     ensures served { (first : HallPass) → first.charter ≡ Some world.now.hall.catalogue

@@ -5,6 +5,7 @@ ghost use Rattle.cache_hall.specs.Turned.{HallPass, IsPassOf};
 ghost use Rattle.catalog.specs.Valid.{IsValid};
 ghost use Rattle.crossbeam_queue.specs.Passes.{view};
 ghost use Rattle.job_board.specs.Calls.{IsBoardPass};
+ghost use Rattle.layer_recipes.specs.Books.{IsBookOf};
 ghost use Rattle.link_queue.specs.Accepted.{HasAccepted};
 ghost use Rattle.link_queue.specs.Hands.{IsHand, all_parts, hand, table_of};
 ghost use Rattle.link_queue.specs.declared.hand.QueueHand.{QueueHand};
@@ -30,7 +31,6 @@ use hall_sessions::World;
 use http_wire::{Link, Listener};
 use job_board::BoardPass;
 use link_queue::{LinkQueue, accept_all};
-use png_text::CrcTables;
 use seed_jobs::{JobGate, MEMBERS, Runner, run_jobs};
 use source_render::Source;
 use std::alloc::Global;
@@ -40,10 +40,8 @@ use std::sync::atomic::{AtomicBool, Ordering};
 use std::thread::{Threads, for_each_mut, join_mut};
 use tile_requests::Tables;
 use turnstile::Pass;
-use wmts_rest::RestTable;
 
 /// Lets all workers serve until no more links come. Then all jobs are cancelled, and who runs them is told.
-#[tactic(auto, using(crate::proofs::Shared::world_sync))]
 fn work_all<
     R: Threads + Wait + std::time::Clock + Sync,
     K: Keeper + Send,
@@ -61,6 +59,7 @@ fn work_all<
     requires valid { IsValid world.now.hall.catalogue }
     requires ready { MayAllServe S.told S.faults (place_of world.now (table_of queue.now.links)) workers.old }
     requires place { IsBoardPass world.now.board.turnstile.table canceller.old }
+    requires book { IsBookOf world.now.hall.catalogue world.now.recipes }
     ensures ready { MayAllServe S.told S.faults (place_of world.now (table_of queue.now.links)) workers.new }
     ensures worked { (first : HallPass) (before : QueueHand L)
         → HaveServedSince S.told S.faults (service_of L.left L.taken L.ByteSource.faults L.ByteSink.faults world.now first) before workers.old
@@ -68,14 +67,13 @@ fn work_all<
     ensures place { IsBoardPass world.now.board.turnstile.table canceller.new }
     ensures stops { HasStoppedTo 1024 canceller.old canceller.new }
 {
-    is_shared::<RestTable>();
-    is_shared::<CrcTables>();
+    is_shared::<Tables>();
     for_each_mut(
         rt,
         workers,
         WORKERS,
         &|_, worker: &mut Worker<K, S, L>|
-            requires { IsValid world.now.hall.catalogue × MayServe (place_of world.now (table_of queue.now.links)) (worker_of S.told S.faults worker.now) }
+            requires { IsValid world.now.hall.catalogue × MayServe (place_of world.now (table_of queue.now.links)) (worker_of S.told S.faults worker.now) × IsBookOf world.now.hall.catalogue world.now.recipes }
             ensures ready { MayServe (place_of world.entry.now (table_of queue.entry.now.links)) (worker_of S.told S.faults worker.exit.now) }
             ensures worked { (first : HallPass) (before : QueueHand L)
                 → HasServedSince (service_of L.left L.taken L.ByteSource.faults L.ByteSink.faults world.entry.now first) before (worker_of S.told S.faults worker.entry.now)
@@ -109,6 +107,7 @@ fn work_and_run<
     requires ready { MayAllServe S.told S.faults (place_of world.now (table_of queue.now.links)) workers.old }
     requires runner { idles.IsStandbyReady world.now.board.turnstile.table world.now.hall.turnstile.table world.now.hall.catalogue runner.old }
     requires place { IsBoardPass world.now.board.turnstile.table canceller.old }
+    requires book { IsBookOf world.now.hall.catalogue world.now.recipes }
     ensures ready { MayAllServe S.told S.faults (place_of world.now (table_of queue.now.links)) workers.new }
     ensures runner { idles.IsStandbyReady world.now.board.turnstile.table world.now.hall.turnstile.table world.now.hall.catalogue runner.new }
     ensures runs { RunsAll world.now.hall.catalogue runner.old runner.new }
@@ -133,7 +132,7 @@ fn work_and_run<
             ensures runs { RunsAll world.entry.now.hall.catalogue runner.entry.now runner.exit.now }
         { run_jobs(rt, alloc, &world.hall, &world.board, is_over, runner) },
         &mut ||
-            requires { IsValid world.now.hall.catalogue × MayAllServe S.told S.faults (place_of world.now (table_of queue.now.links)) workers.now × IsBoardPass world.now.board.turnstile.table canceller.now }
+            requires { IsValid world.now.hall.catalogue × MayAllServe S.told S.faults (place_of world.now (table_of queue.now.links)) workers.now × IsBoardPass world.now.board.turnstile.table canceller.now × IsBookOf world.now.hall.catalogue world.now.recipes }
             ensures ready { MayAllServe S.told S.faults (place_of world.entry.now (table_of queue.entry.now.links)) workers.exit.now }
             ensures worked { (first : HallPass) (before : QueueHand L)
                 → HaveServedSince S.told S.faults (service_of L.left L.taken L.ByteSource.faults L.ByteSink.faults world.entry.now first) before workers.entry.now
@@ -160,6 +159,7 @@ fn serve_all<
     requires upkeep { IsPassOf world.now.hall.turnstile.table world.now.hall.catalogue crew.old.upkeep }
     requires runner { idles.IsStandbyReady world.now.board.turnstile.table world.now.hall.turnstile.table world.now.hall.catalogue crew.old.runner }
     requires place { IsBoardPass world.now.board.turnstile.table crew.old.canceller }
+    requires book { IsBookOf world.now.hall.catalogue world.now.recipes }
     ensures ready { MayAllServe S.told S.faults (place_of world.now (table_of queue.now.links)) crew.new.workers.items }
     ensures upkeep { IsPassOf world.now.hall.turnstile.table world.now.hall.catalogue crew.new.upkeep }
     ensures keeps { HasKeptUp world.now.hall.catalogue crew.old.upkeep crew.new.upkeep }
@@ -195,7 +195,7 @@ fn serve_all<
             ensures keeps { HasKeptUp hall.entry.now.catalogue upkeep.entry.now upkeep.exit.now }
         { keep_up(rt, hall, shift, upkeep) },
         &mut ||
-            requires { IsValid world.now.hall.catalogue × MayAllServe S.told S.faults (place_of world.now (table_of queue.now.links)) workers.now × idles.IsStandbyReady world.now.board.turnstile.table world.now.hall.turnstile.table world.now.hall.catalogue runner.now × IsBoardPass world.now.board.turnstile.table canceller.now }
+            requires { IsValid world.now.hall.catalogue × MayAllServe S.told S.faults (place_of world.now (table_of queue.now.links)) workers.now × idles.IsStandbyReady world.now.board.turnstile.table world.now.hall.turnstile.table world.now.hall.catalogue runner.now × IsBoardPass world.now.board.turnstile.table canceller.now × IsBookOf world.now.hall.catalogue world.now.recipes }
             ensures ready { MayAllServe S.told S.faults (place_of world.entry.now (table_of queue.entry.now.links)) workers.exit.now }
             ensures runner { idles.IsStandbyReady world.entry.now.board.turnstile.table world.entry.now.hall.turnstile.table world.entry.now.hall.catalogue runner.exit.now }
             ensures runs { RunsAll world.entry.now.hall.catalogue runner.entry.now runner.exit.now }
@@ -234,6 +234,7 @@ where
     requires place { IsBoardPass world.now.board.turnstile.table staff.old.crew.canceller }
     requires acceptor { IsHand (table_of queue.now.links) (view staff.old.acceptor) staff.old.acceptor }
     requires parts { 0 < (view staff.old.acceptor).parts }
+    requires book { IsBookOf world.now.hall.catalogue world.now.recipes }
     ensures accepted { HasAccepted (table_of queue.now.links) connections (view staff.old.acceptor) staff.new.acceptor (N.given listener.old) (N.given listener.new) (N.faults listener.old) (N.faults listener.new) result }
     ensures ready { MayAllServe S.told S.faults (place_of world.now (table_of queue.now.links)) staff.new.crew.workers.items }
     ensures upkeep { IsPassOf world.now.hall.turnstile.table world.now.hall.catalogue staff.new.crew.upkeep }
@@ -255,7 +256,7 @@ where
     let ((), all) = join_mut(
         rt,
         &mut ||
-            requires { IsValid world.now.hall.catalogue × MayAllServe S.told S.faults (place_of world.now (table_of queue.now.links)) crew.now.workers.items × IsPassOf world.now.hall.turnstile.table world.now.hall.catalogue crew.now.upkeep × idles.IsStandbyReady world.now.board.turnstile.table world.now.hall.turnstile.table world.now.hall.catalogue crew.now.runner × IsBoardPass world.now.board.turnstile.table crew.now.canceller }
+            requires { IsValid world.now.hall.catalogue × MayAllServe S.told S.faults (place_of world.now (table_of queue.now.links)) crew.now.workers.items × IsPassOf world.now.hall.turnstile.table world.now.hall.catalogue crew.now.upkeep × idles.IsStandbyReady world.now.board.turnstile.table world.now.hall.turnstile.table world.now.hall.catalogue crew.now.runner × IsBoardPass world.now.board.turnstile.table crew.now.canceller × IsBookOf world.now.hall.catalogue world.now.recipes }
             ensures ready { MayAllServe S.told S.faults (place_of world.entry.now (table_of queue.entry.now.links)) crew.exit.now.workers.items }
             ensures worked { (first : HallPass) (before : QueueHand N.L)
                 → HaveServedSince S.told S.faults (service_of N.L.left N.L.taken N.L.ByteSource.faults N.L.ByteSink.faults world.entry.now first) before crew.entry.now.workers.items
@@ -313,6 +314,7 @@ where
     requires empty { passes.items ≡ [] }
     requires room { WORKERS + 1 + MEMBERS ≤ vec_capacity passes }
     requires acceptor { IsHand (table_of queue.now.links) (hand (all_parts - WORKERS) [] []) staff.acceptor }
+    requires book { IsBookOf world.now.hall.catalogue world.now.recipes }
     ensures of { All (λ p. p.table ≡ world.now.hall.turnstile.table) result.passes.items }
     ensures count { length result.passes.items ≡ WORKERS + 1 + MEMBERS }
     ensures upkeep { IsKeptUpBy world.now.hall.catalogue staff.crew.upkeep result.passes.items }

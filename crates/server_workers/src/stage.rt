@@ -10,6 +10,7 @@ use cache_hall::{Hall, HallEntry};
 use exact_ratio::Words;
 use hall_sessions::World;
 use job_board::{Board, BoardEntry, BoardPass};
+use layer_recipes::RecipeBook;
 use std::alloc::{AllocError, Global};
 use tile_requests::Tables;
 use turnstile::Pass;
@@ -31,18 +32,20 @@ pub struct ReadyServer<K: Keeper> {
     pub boards: Vec<BoardPass>,
 }
 
-/// A world over a cabinet, with its capabilities document and a board without jobs, and the passes of it. Where the caller sets the mark of
+/// A world over a cabinet, with its capabilities document, its recipes and a board without jobs, and the passes of it. Where the caller sets the mark of
 /// being told, the cabinet is sound. `AllocError` where memory runs out; the cabinet is dropped then.
 pub fn stage_of<K: Keeper>(
     alloc: Global,
     tables: Tables,
     capabilities: Words,
+    recipes: RecipeBook,
     keeper: K,
 ) -> Result<ReadyServer<K>, AllocError>
     ghost told: { Bool }
     requires sound { told ≡ true → IsSound (K.state keeper) }
     ensures catalogue { IfOk result (λ o. o.world.hall.catalogue ≡ (K.state keeper).catalogue) }
     ensures document { IfOk result (λ o. o.world.capabilities ≡ capabilities) }
+    ensures recipes { IfOk result (λ o. o.world.recipes ≡ recipes) }
     ensures count { IfOk result (λ o. (length o.passes.items ≡ PASSES) × (o.world.hall.turnstile.passes ≡ PASSES)) }
     ensures boards { IfOk result (λ o. AreFirstAtBoard o.world.board.turnstile.table BOARD_PASSES o.boards.items) }
     ensures first { IfOk result (λ o. All (λ p. p ≡ first_pass o.world.hall.turnstile.table (K.state keeper).catalogue told (K.state keeper)) o.passes.items) }
@@ -52,12 +55,14 @@ pub fn stage_of<K: Keeper>(
         Ok(entry) => entry,
         Err(fault) => {
             drop(tables);
+            drop(recipes);
             return Err(fault);
         }
     };
     match Hall::make(alloc, keeper, PASSES) {
         Err(fault) => {
             drop(tables);
+            drop(recipes);
             drop(entry);
             Err(fault)
         }
@@ -73,6 +78,7 @@ pub fn stage_of<K: Keeper>(
                     capabilities,
                     board,
                     traffic: Traffic::new(),
+                    recipes,
                 },
                 passes: passes.into_vec(),
                 boards: boards.into_vec(),

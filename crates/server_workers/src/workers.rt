@@ -3,6 +3,7 @@ ghost use Rattle.std.specs.Prelude.{◌≡◌};
 ghost use Rattle.cache_hall.specs.Turned.{HallPass};
 ghost use Rattle.catalog.specs.Valid.{IsValid};
 ghost use Rattle.crossbeam_queue.specs.Passes.{view};
+ghost use Rattle.layer_recipes.specs.Books.{IsBookOf};
 ghost use Rattle.link_queue.specs.Hands.{IsEven, all_parts, table_of};
 ghost use Rattle.link_queue.specs.declared.hand.QueueHand.{QueueHand};
 ghost use Rattle.server_workers.specs.Workers.{HasServedSince, MayServe, place_of, service_of, worker_of};
@@ -47,6 +48,7 @@ pub(crate) fn work<R: Wait + Clock, K: Keeper, S: Source, L: Link>(
 )
     requires valid { IsValid world.now.hall.catalogue }
     requires ready { MayServe (place_of world.now (table_of queue.now.links)) (worker_of S.told S.faults worker.old) }
+    requires book { IsBookOf world.now.hall.catalogue world.now.recipes }
     ensures ready { MayServe (place_of world.now (table_of queue.now.links)) (worker_of S.told S.faults worker.new) }
     ensures worked { (first : HallPass) (before : QueueHand L)
         → HasServedSince (service_of L.left L.taken L.ByteSource.faults L.ByteSink.faults world.now first) before (worker_of S.told S.faults worker.old)

@@ -1,4 +1,4 @@
 use Rattle.server_command.proofs.setup.made_ready.Given as goal
 
-abbrev pub ghost-world_on : goal.ghost-world_on
-ghost-world_on g a = g.told
+abbrev pub ghost-world_with : goal.ghost-world_with
+ghost-world_with g a = g.told
