@@ -92,14 +92,24 @@ fn open_alone<R: Files<File = File>>(rt: &R, path: &str, makes: bool) -> Result<
     Ok(file)
 }
 
+/// Opens a file so, of which a read that begins below `padded`, in bytes, finds zeros past the end.
+fn open_padded<R: Files<File = File>>(rt: &R, path: &str, makes: bool, padded: u64) -> CacheDisk {
+    match open_alone(rt, path, makes) {
+        Ok(file) => CacheDisk::File(FileDisk::new(file, padded)),
+        Err(Unopened::Absent) => CacheDisk::Absent(0),
+        Err(Unopened::Refused(fault)) => CacheDisk::Shut(0, fault),
+    }
+}
+
 impl CacheDisk {
     /// Opens the file of this name in the current folder; `makes` says whether it is made where it isn't there.
     pub fn open<R: Files<File = File>>(rt: &R, path: &str, makes: bool) -> CacheDisk {
-        match open_alone(rt, path, makes) {
-            Ok(file) => CacheDisk::File(FileDisk::new(file, HEADERS)),
-            Err(Unopened::Absent) => CacheDisk::Absent(0),
-            Err(Unopened::Refused(fault)) => CacheDisk::Shut(0, fault),
-        }
+        open_padded(rt, path, makes, HEADERS)
+    }
+
+    /// Opens a file of sums of this name so, for who writes the ones that are missing: what lies past its end is read as zeros, which is no sum.
+    pub fn open_sums<R: Files<File = File>>(rt: &R, path: &str, makes: bool) -> CacheDisk {
+        open_padded(rt, path, makes, u64::MAX)
     }
 
     /// The call that failed last, and what the system said of it; `None` where none has failed, or the file isn't there.

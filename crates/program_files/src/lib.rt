@@ -7,6 +7,8 @@
 #![tactic(auto)]
 
 mod cache_disk;
+mod cells_form;
+mod counted_disk;
 mod counted_source;
 mod input;
 mod program_source;
@@ -16,6 +18,8 @@ mod stream_link;
 mod watched_cache;
 
 pub use cache_disk::CacheDisk;
+pub use cells_form::{CellsFault, cells_fault};
+pub use counted_disk::CountedDisk;
 pub use counted_source::CountedSource;
 pub use input::Input;
 pub use program_source::ProgramSource;

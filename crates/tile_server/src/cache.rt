@@ -48,7 +48,7 @@ pub fn open_files_at(
         CacheDisk::File(_) => true,
         CacheDisk::Absent(_) => {
             let _ = eprintln!(rt;
-                "no sums: {sums_path} isn't there, and tiles are given as they are read"
+                "no sums: {sums_path} isn't there, and tiles are given as they are read, until `tile_server seal` writes it"
             );
             false
         }

@@ -2,6 +2,7 @@
 ghost use Rattle.std.specs.Prelude.{◌<◌};
 
 use crate::cache::{no_cache, open_cache, tell_unfit};
+use crate::catalogue_copies::keep_copy_of;
 use crate::endings::{WorkedFile, end_with};
 use crate::job_input::{JobInput, read_ahead};
 use crate::{CACHE, CAPABILITIES, CELLS, CatalogueInput, catalogue_of, exit_code, without_source};
@@ -98,5 +99,6 @@ where
         Clock::system(rt),
     );
     tell_unfit(&rt, &disk.files);
+    keep_copy_of(&rt, &disk.files.disk);
     end_with(&rt, status, &[WorkedFile::of(CACHE, &disk.files.disk)])
 }

@@ -1,10 +1,12 @@
 //! How the end of a command is told: its line, a second one with the file and what the system said, and the code.
-use crate::{CAPABILITIES, CATALOGUE, RENDERER};
+use crate::catalogue_copies::tell_copy;
+use crate::{CAPABILITIES, CATALOGUE, RECIPES, RENDERER};
 use catalog::CatalogueFault;
 use command_setup::CATALOGUE_LIMIT;
 use command_status::Status;
 use disk_model::FileFault;
 use fault_paths::fault_paths;
+use gate_journal::OpenFault;
 use http_wire::{FileSource, read_all};
 use program_files::CacheDisk;
 use std::fs::File;
@@ -36,7 +38,7 @@ impl WorkedFile {
     }
 
     /// Tells what is wrong with the file, where something is.
-    fn tell(&self, rt: &impl Eprint) {
+    pub fn tell(&self, rt: &impl Eprint) {
         let name = self.name;
         if self.in_use {
             let _ = eprintln!(rt; "{name}: another program works on it (fuser {name} names it)");
@@ -58,7 +60,7 @@ fn read_first(rt: &impl Files<File = File>, name: &str) -> io::Result<()> {
 
 /// Tells of each of the files that are read whole what the system says now, where one is there and can't be read.
 fn tell_unreadable(rt: &(impl Files<File = File> + Eprint)) {
-    for name in [CATALOGUE, CAPABILITIES, RENDERER] {
+    for name in [CATALOGUE, CAPABILITIES, RECIPES, RENDERER] {
         match read_first(rt, name) {
             Ok(()) => {}
             Err(error) if error.kind() == ErrorKind::NotFound => {}
@@ -100,6 +102,7 @@ pub fn end_with(
         Status::DiskFault => files.iter().for_each(|file| file.tell(rt)),
         Status::ReadFault => tell_unreadable(rt),
         Status::Catalogue(fault) => tell_places(rt, fault),
+        Status::Cache(OpenFault::CatalogueDiffers(kept, _)) => tell_copy(rt, &kept),
         Status::Usage => {
             let _ = eprintln!(rt; "tile_server --help lists the commands");
         }

@@ -16,7 +16,9 @@ tile_server job --dry-run < JOB      writes how many places and bytes a job has,
 tile_server usage                    writes what is kept, layer by layer, and how many truncations are in force
 tile_server list [LAYER]             writes a line for each metatile that is kept, and changes nothing
 tile_server check                    tells what a start would refuse and what is misspelt, and changes nothing
-tile_server carry FOLDER             takes over the cache of that folder, as far as its catalogue and this one paint the same
+tile_server seal [--anew]            writes the sums that kept tiles lack, by what their file has, and changes nothing else
+tile_server carry [FOLDER]           takes over the cache of before an edit of the catalogue, or of that folder, as far as both
+                                     catalogues paint the same
 tile_server serve --port PORT --connections COUNT
                                      serves so many connections at that port over TCP on that cache, and keeps its quotas
 tile_server feed make                makes an empty list of the changes that were made on the cache
@@ -33,10 +35,12 @@ tile_server --version                writes the version
 It works with these files of the folder in which it is run:
   catalogue.json     layers, grids, styles, limits; where it is absent, the built-in catalogue of one layer, demo
   capabilities.xml   the capabilities document that GetCapabilities answers; where it is absent, one of no bytes
+  recipes.json       the recipes of the composites that `serve` serves; where it is absent, it serves none
   source.grid        the cells of which pictures are made; where it is absent, the pictures of a formula
   source.http        the renderer over HTTP that makes the pictures, in place of source.grid
   cache.disk         the cache; `make` makes it, and one program at a time may work on it
   cache.sums         sums of its tiles, by which one that was changed is noticed; where it is absent, none is looked for
+  catalogue.*.json   a copy of the catalogue that the cache was made with, for `carry`
   cache.marks        which change of the feed was made last; `feed make` and `twin make` make it
   cache.outbox       the truncations that a leader has for its follower; `twin make` makes it
 
@@ -47,7 +51,7 @@ of it on a second one, where a file is the cause:
    3  catalogue KIND FIELD INDEX: its fault,  9  cuts full: the truncation was not made
       renderer KIND FIELD INDEX: that of
       source.http; two sources: it stands
-      beside source.grid
+      beside source.grid; bad cells
    4  read fault                             10  out of memory
    5  write fault                            11  stream ..: the connection's bytes broke off
    6  disk fault                             12  too long: a file or the input is above its limit
@@ -55,6 +59,8 @@ of it on a second one, where a file is the cause:
                                                  the job
                                              14  listen fault: the port isn't had, or gives no more
                                              15  recipe KIND FIELD PART: the fault of the recipe
+                                                 recipes PLACE KIND FIELD PART: that of the one
+                                                 at this place of recipes.json
                                              16  link ..: it broke off, or a change was not made
                                              17  in use: another program works on the file
                                              18  thread fault: the server's threads can't be made
@@ -130,20 +136,32 @@ nothing, so it takes no number of an opening.
 const CHECK: &str = "tile_server check
 
 Reads the files of this folder as a start would, and tells what it would refuse. It warns of members of the catalogue that nobody knows,
-which are mostly misspelt ones. It changes nothing.
+which are mostly misspelt ones, and of quotas that are never exceeded. A source.grid that no render could read is told as `bad cells`, with
+code 3. It changes nothing.
 ";
 
-const CARRY: &str = "tile_server carry FOLDER
+const SEAL: &str = "tile_server seal
+tile_server seal --anew
 
-Makes a cache for the catalogue of this folder with all that is kept in the cache of FOLDER and that this catalogue paints the same: the
-metatiles under their numbers, and the truncations in force. The cache of FOLDER is only read.
+Reads each kept tile of cache.disk and writes its sum into cache.sums where none is there, and writes `sealed N of N, fitted N, unfit N,
+unread N`. It believes what it reads. A sum that is there and is another one stays, or with --anew is written anew. No tile is changed, and
+no number of an opening is taken.
+";
+
+const CARRY: &str = "tile_server carry
+tile_server carry FOLDER
+
+Makes a cache for the catalogue of this folder with all that is kept in its cache, which an older catalogue made, or in that of FOLDER, and
+that this catalogue paints the same: the metatiles under their numbers, and the truncations in force. It knows the older catalogue by the
+copy that lies beside the cache. The cache of FOLDER is only read; that of this folder is replaced once the new one is whole.
 ";
 
 const SERVE: &str = "tile_server serve --port PORT --connections COUNT
 
 Serves so many connections over HTTP/1.1 at that port of all addresses, on the cache of cache.disk, keeps its quotas, runs the jobs that
 are posted, and ends once the last connection has ended. PORT is 1 to 65535 and COUNT 1 to 1000000. It asks nobody for a name: put a
-proxy before it. Faults of the disk and of the renderer are told on standard error.
+proxy before it. Faults of the disk and of the renderer are told on standard error. The recipes of recipes.json are served at
+/composites/NAME/Z/ROW/COL.ppm and .png.
 ";
 
 const FEED: &str = "tile_server feed make
@@ -175,7 +193,7 @@ Makes the truncations that a leader at that port of this machine sends, each onc
 ";
 
 /// The help of each word.
-const WORDS: [WordHelp; 17] = [
+const WORDS: [WordHelp; 18] = [
     WordHelp {
         word: "schedule",
         text: SCHEDULE,
@@ -215,6 +233,10 @@ const WORDS: [WordHelp; 17] = [
     WordHelp {
         word: "check",
         text: CHECK,
+    },
+    WordHelp {
+        word: "seal",
+        text: SEAL,
     },
     WordHelp {
         word: "carry",

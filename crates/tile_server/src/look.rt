@@ -1,6 +1,8 @@
 //! The words that look at the files of a folder and change nothing: `check`, `list` and `job --dry-run`.
 use crate::cache::open_files;
+use crate::check_files::{tell_cells, warn_of_quotas};
 use crate::endings::{WorkedFile, end_with};
+use crate::recipes::{recipes_of, server_ended};
 use crate::{CACHE, CAPABILITIES, CATALOGUE, CatalogueInput, catalogue_of, without_source};
 use command_setup::CATALOGUE_LIMIT;
 use command_status::Status;
@@ -9,8 +11,9 @@ use fault_paths::unknown_members;
 use http_wire::{FileSource, StdinSource, StdoutSink, read_all};
 use look_words::{run_check, run_dry_run, run_list};
 use program_files::Input;
+use server_command::ServerEnd;
 use std::fs::File;
-use std::io::Eprint;
+use std::io::{Eprint, Print};
 use std::process::ExitCode;
 use std::rt::Files;
 use std::str::from_utf8;
@@ -22,7 +25,7 @@ const PART: &str = "cache.part";
 fn warn_of_part(rt: &(impl Files<File = File> + Eprint)) {
     if File::open(rt, PART).is_ok() {
         let _ = eprintln!(rt;
-            "warning: {PART}: what is left of a carrying that broke off, or one is at work"
+            "warning: {PART}: what is left of a carrying that broke off, or one is at work: remove it if none is"
         );
     }
 }
@@ -42,6 +45,34 @@ fn warn_of_unknown(rt: &(impl Files<File = File> + Eprint + AllocGlobal)) {
     for path in lines.lines() {
         let _ = eprintln!(rt; "warning: catalogue: {path}: unknown member");
     }
+}
+
+/// Tells how many recipes there are.
+fn told(rt: &impl Print, count: usize) -> ServerEnd {
+    match println!(rt; "recipes ok: {count} recipes") {
+        Ok(()) => ServerEnd::Ended(Status::Done),
+        Err(_) => ServerEnd::Ended(Status::WriteFault),
+    }
+}
+
+/// Whether a start that ends so has read its recipes: it does so behind the catalogue and the capabilities document, and before the cache.
+fn has_read_recipes(status: Status) -> bool {
+    matches!(status, Status::Done | Status::Cache(_) | Status::DiskFault)
+}
+
+/// How a check ends whose other files ended so, by how many recipes there are or how a start would end by them. Recipes that are in order are
+/// told, where there are some.
+fn with_recipes(rt: &impl Print, status: Status, recipes: Result<usize, ServerEnd>) -> ServerEnd {
+    match recipes {
+        Err(end) if has_read_recipes(status) => end,
+        Ok(count) if status == Status::Done && count > 0 => told(rt, count),
+        _ => ServerEnd::Ended(status),
+    }
+}
+
+/// Whether a start would refuse nothing that was looked at.
+fn passes(end: &ServerEnd) -> bool {
+    matches!(end, ServerEnd::Ended(Status::Done))
 }
 
 /// Tells what a start would refuse of the files of the folder, the file of the source among them.
@@ -67,8 +98,12 @@ fn check(rt: HostRuntime, words: &[Words]) -> ExitCode {
         &mut disk,
     );
     warn_of_part(&rt);
+    let end = with_recipes(&rt, status, recipes_of(&rt));
     warn_of_unknown(&rt);
-    end_with(&rt, status, &[WorkedFile::of(CACHE, &disk.disk)])
+    warn_of_quotas(&rt);
+    let is_passed = passes(&end);
+    let code = server_ended(&rt, end, &[WorkedFile::of(CACHE, &disk.disk)]);
+    tell_cells(&rt, is_passed, code)
 }
 
 /// Lists what is kept.

@@ -2,7 +2,7 @@
 //! for (`top_call` of command_words), and tells how that ended. `command` hands them to `run_command` of tile_command, `serve` to `run_server`
 //! of server_command, with a listening socket, `feed` to `run_feed` of feed_words, `compose` to `run_compose` of compose_words, `twin` to
 //! `run_twin` of twin_words, and `link` to `run_link` of link_words, with a connection. `look` hands the words that change nothing to `run_check`,
-//! `run_list` and `run_dry_run` of look_words.
+//! `run_list` and `run_dry_run` of look_words, and `seal` the files of a cache to `seal` of cache_seal.
 //!
 //! Promises: none that a clause says; this is the trusted edge. What the command does is promised there.
 //! Stands on tile_command, server_command, feed_words, compose_words, twin_words and link_words, and on the crates whose files, streams and
@@ -11,6 +11,8 @@
 
 mod cache;
 mod carry;
+mod catalogue_copies;
+mod check_files;
 mod command;
 mod compose;
 mod endings;
@@ -19,6 +21,8 @@ mod help;
 mod job_input;
 mod link;
 mod look;
+mod recipes;
+mod seal;
 mod serve;
 mod twin;
 
@@ -48,6 +52,9 @@ const CATALOGUE: &str = "catalogue.json";
 
 /// The capabilities document, a file of that folder.
 const CAPABILITIES: &str = "capabilities.xml";
+
+/// The recipes of the composites that a server serves, a file of that folder, where there are some.
+const RECIPES: &str = "recipes.json";
 
 /// The file of cells of that folder, which makes the pictures where it is there.
 const CELLS: &str = "source.grid";
@@ -140,8 +147,8 @@ fn main(rt: HostRuntime) -> ExitCode {
         TopCall::Twin => twin::twin(rt, rt, words.as_slice()),
         TopCall::Link => link::link(rt, words.as_slice()),
         TopCall::Look => look::look(rt, words.as_slice()),
-        TopCall::Carry => carry::carry(&rt, words.as_slice()),
-        TopCall::Seal => end_with(&rt, Status::Usage, &[]),
+        TopCall::Carry => carry::carry(rt, words.as_slice()),
+        TopCall::Seal => seal::seal(&rt, words.as_slice()),
     }
 }
 

@@ -2,9 +2,11 @@
 ghost use Rattle.std.specs.Prelude.{IfOk, length, ◌≡◌, ◌≤◌};
 
 use crate::cache::{open_cache, tell_unfit};
+use crate::catalogue_copies::keep_copy_of;
 use crate::endings::{WorkedFile, end_with};
+use crate::recipes::server_ended;
 use crate::{
-    CACHE, CAPABILITIES, CELLS, CatalogueInput, catalogue_of, exit_code, status_of_error,
+    CACHE, CAPABILITIES, CELLS, CatalogueInput, RECIPES, catalogue_of, exit_code, status_of_error,
     without_source,
 };
 use base::Clock;
@@ -74,6 +76,7 @@ where
         return exit_code(rt, Status::OutOfMemory);
     };
     let mut capabilities = Input::File(FileSource::open(rt, CAPABILITIES));
+    let mut recipes = Input::File(FileSource::open(rt, RECIPES));
     let watch = Watch {
         faults: true,
         opening: false,
@@ -86,16 +89,18 @@ where
             &[WorkedFile::of(CACHE, &cache.files.disk)],
         );
     }
+    keep_copy_of(rt, &cache.files.disk);
     let mut listener = match TcpAccept::bind(*rt, rt.alloc(), words.port) {
         Ok(listener) => listener,
         Err(error) => return exit_code(rt, status_of_error(&error)),
     };
-    let status = run_server(
+    let end = run_server(
         rt,
         rt.alloc(),
         words.connections,
         &mut catalogue,
         &mut capabilities,
+        &mut recipes,
         &mut listener,
         sources,
         &mut cache,
@@ -103,7 +108,7 @@ where
         Snapshot::of(&false),
     );
     tell_unfit(rt, &cache.files);
-    end_with(rt, status, &[WorkedFile::of(CACHE, &cache.files.disk)])
+    server_ended(rt, end, &[WorkedFile::of(CACHE, &cache.files.disk)])
 }
 
 /// Does what the words of a server say: `serve`, and those after it.
