@@ -38,6 +38,35 @@ pub const AT_FIRST: &[u8] = b"P6\n2 2\n255\n\xc4\xc4\xc4\x07\x07\x07\xe7\xe7\xe7
 /// The composite of demo's picture 1 over wood's picture 4.
 pub const AFTER_A_CUT: &[u8] = b"P6\n2 2\n255\n\xd2\xd2\xd2\x07\x07\x07\xe7\xe7\xe7\x6f\x6f\x6f";
 
+/// The same recipe under a name.
+pub const RECIPES: &[u8] = br#"{"over":{"grid":"tiny","parts":[
+{"layer":"demo","style":"grey","key":[127,127,127]},
+{"layer":"wood","style":"grey","key":[0,0,0]}]}}"#;
+
+/// Its composite as a pixmap and as PNG, a row that isn't there, a name that no recipe has, another method, and a tile of demo.
+pub const MESSAGES: &[u8] = b"GET /composites/over/0/0/0.ppm HTTP/1.1\r\n\r\n\
+    GET /composites/over/0/0/0.png HTTP/1.1\r\n\r\n\
+    GET /composites/over/0/1/0.ppm HTTP/1.1\r\n\r\n\
+    GET /composites/under/0/0/0.ppm HTTP/1.1\r\n\r\n\
+    POST /composites/over/0/0/0.ppm HTTP/1.1\r\nContent-Length: 0\r\n\r\n\
+    GET /rest/wmts/demo/grey/tiny/0/0/0.ppm HTTP/1.1\r\n\r\n";
+
+/// The composite of demo's picture 1 over wood's picture 2, and that demo's tile is kept.
+pub const RESPONSES: &[u8] =
+    b"HTTP/1.1 200 OK\r\nContent-Type: image/x-portable-pixmap\r\nContent-Length: 23\r\n\
+    composite-renders: 1,2\r\n\r\nP6\n2 2\n255\n\xc4\xc4\xc4\x07\x07\x07\xe7\xe7\xe7ooo\
+    HTTP/1.1 200 OK\r\nContent-Type: image/png\r\nContent-Length: 87\r\ncomposite-renders: 1,2\r\n\r\n\
+    \x89PNG\r\n\x1a\n\x00\x00\x00\rIHDR\x00\x00\x00\x02\x00\x00\x00\x02\x08\x02\x00\x00\x00\xfd\xd4\x9as\
+    \x00\x00\x00\x1eIDATx\x01\x00\x07\x00\xf8\xff\x00\xc4\xc4\xc4\x07\x07\x07\x01\x07\x00\xf8\xff\x00\xe7\xe7\xe7ooo\
+    ,~\x06dc\xcd\x8d-\x00\x00\x00\x00IEND\xaeB`\x82\
+    HTTP/1.1 400 Bad Request\r\nContent-Type: text/xml\r\nContent-Length: 193\r\n\r\n\
+    <?xml version=\"1.0\" encoding=\"UTF-8\"?>\n<ExceptionReport xmlns=\"http://www.opengis.net/ows/1.1\" version=\"1.1.0\">\n\
+    <Exception exceptionCode=\"TileOutOfRange\" locator=\"TileRow\"/>\n</ExceptionReport>\n\
+    HTTP/1.1 404 Not Found\r\nContent-Length: 0\r\n\r\n\
+    HTTP/1.1 405 Method Not Allowed\r\nContent-Length: 0\r\n\r\n\
+    HTTP/1.1 200 OK\r\nContent-Type: image/x-portable-pixmap\r\nContent-Length: 23\r\n\
+    geowebcache-cache-result: HIT\r\ntile-render: 1\r\n\r\nP6\n2 2\n255\n\x7f\x7f\x7f\x07\x07\x07\xe7\xe7\xe7ooo";
+
 /// The catalogue; none where its text is refused or memory runs out.
 pub fn rows_catalogue(alloc: Global) -> Option<Catalogue>
     ensures { IfSome result (λ c. IsValid c) }

@@ -19,9 +19,9 @@ type Summed = SummedDisk<SilentDisk, SilentDisk>;
 
 /// The two files of a cache.
 #[derive(Drop)]
-struct Copy {
-    disk: Vec<u8>,
-    sums: Vec<u8>,
+pub struct Copy {
+    pub disk: Vec<u8>,
+    pub sums: Vec<u8>,
 }
 
 /// A cabinet over a copy of these files; `None` where they are refused.
@@ -57,7 +57,7 @@ fn left_by(alloc: Global, cabinet: Cabinet<Summed>) -> Result<Copy, AllocError> 
 }
 
 /// The files once a tile of this byte is kept in the corner.
-fn with_tile(alloc: Global, copy: &Copy, byte: u8) -> Result<Copy, Fail> {
+pub fn with_tile(alloc: Global, copy: &Copy, byte: u8) -> Result<Copy, Fail> {
     let Some(mut cabinet) = opened(alloc, &copy.disk, &copy.sums, true)? else {
         return Err(Fail::from("the cache is refused"));
     };
@@ -70,7 +70,7 @@ fn with_tile(alloc: Global, copy: &Copy, byte: u8) -> Result<Copy, Fail> {
 }
 
 /// The byte of the tile in the corner, where it is given.
-fn shown(alloc: Global, disk: &[u8], sums: &[u8], checked: bool) -> Result<Option<u8>, Fail> {
+pub fn shown(alloc: Global, disk: &[u8], sums: &[u8], checked: bool) -> Result<Option<u8>, Fail> {
     let Some(mut cabinet) = opened(alloc, disk, sums, checked)? else {
         return Err(Fail::from("the cache is refused"));
     };

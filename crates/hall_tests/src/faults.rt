@@ -1,6 +1,6 @@
 //! Sessions one of whose objects fails: at its first call, at its second, and so on up to a session without a fault. Behind each
 //! session another one is held in the same hall.
-ghost use Rattle.std.specs.Prelude.{IfOk, ◌≡◌};
+ghost use Rattle.std.specs.Prelude.{IfOk, ◌≡◌, []};
 ghost use Rattle.catalog.specs.Demo.{demo};
 ghost use Rattle.hall_tests.specs.Fit.{IsFit};
 ghost use Rattle.job_board.specs.Calls.{IsBoardPass};
@@ -158,6 +158,7 @@ fn session<R: Wait, K: Keeper>(
 ) -> Result<(SessionEnd, Vec<u8>), AllocError>
     requires fit { IsFit world.now.hall.turnstile world.now.hall.catalogue pass.old }
     requires board { IsBoardPass world.now.board.turnstile.table board.old }
+    requires no_recipes { world.now.recipes.recipes.items ≡ [] }
     ensures { IfOk result (λ _. IsBoardPass world.now.board.turnstile.table board.new) }
 {
     let mut source = Scripted::new(0, fails_of(alloc, object == Object::Source, call)?);
@@ -177,6 +178,7 @@ fn seen_of<R: Wait, K: Keeper>(
     requires a { IsFit visit.old.world.hall.turnstile visit.old.world.hall.catalogue visit.old.a }
     requires b { IsFit visit.old.world.hall.turnstile visit.old.world.hall.catalogue visit.old.b }
     requires board { IsBoardPass visit.old.world.board.turnstile.table visit.old.board }
+    requires no_recipes { visit.old.world.recipes.recipes.items ≡ [] }
 {
     let world = &visit.world;
     let (a, b, board) = (&mut visit.a, &mut visit.b, &mut visit.board);

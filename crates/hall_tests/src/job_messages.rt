@@ -1,4 +1,5 @@
 //! Messages for jobs, over one connection in memory.
+ghost use Rattle.std.specs.Prelude.{◌≡◌, []};
 ghost use Rattle.hall_tests.specs.Fit.{IsFit};
 ghost use Rattle.job_board.specs.Calls.{IsBoardPass};
 
@@ -47,6 +48,7 @@ fn session<R: Wait, K: Keeper>(
 ) -> Result<(SessionEnd, Vec<u8>), AllocError>
     requires fit { IsFit visit.old.world.hall.turnstile visit.old.world.hall.catalogue visit.old.a }
     requires board { IsBoardPass visit.old.world.board.turnstile.table visit.old.board }
+    requires no_recipes { visit.old.world.recipes.recipes.items ≡ [] }
 {
     let link = MemoryLink::new(
         MemorySource::new(Vec::from_slice(alloc, MESSAGES)?, 4096, Vec::new(alloc)),

@@ -1,5 +1,5 @@
 //! A world over a cabinet, with two passes of its hall and one of its board of jobs, and sessions in it.
-ghost use Rattle.std.specs.Prelude.{IfOk, IfSome};
+ghost use Rattle.std.specs.Prelude.{IfOk, IfSome, ◌≡◌, []};
 ghost use Rattle.hall_tests.specs.Fit.{IsFit};
 ghost use Rattle.job_board.specs.Calls.{IsBoardPass};
 
@@ -11,6 +11,7 @@ use exact_ratio::Words;
 use hall_sessions::{World, serve_session};
 use http_wire::MemoryLink;
 use job_board::{Board, BoardEntry, BoardPass};
+use layer_recipes::RecipeBook;
 use sessions::SessionEnd;
 use source_render::Scripted;
 use std::alloc::{AllocError, Global};
@@ -69,6 +70,7 @@ fn visit_on<K: Keeper>(alloc: Global, pair: Pair<K>, ground: Ground) -> Visit<K>
     ensures a { IsFit result.world.hall.turnstile result.world.hall.catalogue result.a }
     ensures b { IsFit result.world.hall.turnstile result.world.hall.catalogue result.b }
     ensures board { IsBoardPass result.world.board.turnstile.table result.board }
+    ensures recipes { result.world.recipes.recipes.items ≡ [] }
 {
     let Pair { hall, a, b } = pair;
     let Ground {
@@ -83,6 +85,9 @@ fn visit_on<K: Keeper>(alloc: Global, pair: Pair<K>, ground: Ground) -> Visit<K>
             capabilities: Words::of(Vec::new(alloc)),
             board,
             traffic: Traffic::new(),
+            recipes: RecipeBook {
+                recipes: Vec::new(alloc),
+            },
         },
         a,
         b,
@@ -90,11 +95,11 @@ fn visit_on<K: Keeper>(alloc: Global, pair: Pair<K>, ground: Ground) -> Visit<K>
     }
 }
 
-/// A world over the hall of these passes, with a board without jobs.
+/// A world over the hall of these passes, with a board without jobs and without recipes.
 pub fn visit_of<K: Keeper>(alloc: Global, pair: Pair<K>) -> Result<Option<Visit<K>>, AllocError>
     requires a { IsFit pair.hall.turnstile pair.hall.catalogue pair.a }
     requires b { IsFit pair.hall.turnstile pair.hall.catalogue pair.b }
-    ensures { IfOk result (λ o. IfSome o (λ v. IsFit v.world.hall.turnstile v.world.hall.catalogue v.a × IsFit v.world.hall.turnstile v.world.hall.catalogue v.b × IsBoardPass v.world.board.turnstile.table v.board)) }
+    ensures { IfOk result (λ o. IfSome o (λ v. IsFit v.world.hall.turnstile v.world.hall.catalogue v.a × IsFit v.world.hall.turnstile v.world.hall.catalogue v.b × IsBoardPass v.world.board.turnstile.table v.board × (v.world.recipes.recipes.items ≡ []))) }
 {
     match new_ground(alloc) {
         Ok(Some(ground)) => Ok(Some(visit_on(alloc, pair, ground))),
@@ -110,6 +115,7 @@ pub fn visit_of<K: Keeper>(alloc: Global, pair: Pair<K>) -> Result<Option<Visit<
 }
 
 /// Holds a session over a link, and tells its end and what was written.
+#[tactic(auto, using(crate::proofs::Fitting::no_recipes_fit))]
 pub fn held<R: Wait, K: Keeper>(
     rt: &R,
     alloc: Global,
@@ -121,6 +127,7 @@ pub fn held<R: Wait, K: Keeper>(
 ) -> Result<(SessionEnd, Vec<u8>), AllocError>
     requires fit { IsFit world.now.hall.turnstile world.now.hall.catalogue pass.old }
     requires board { IsBoardPass world.now.board.turnstile.table board.old }
+    requires no_recipes { world.now.recipes.recipes.items ≡ [] }
     ensures { IfOk result (λ _. IsBoardPass world.now.board.turnstile.table board.new) }
 {
     let mut link = link;

@@ -7,6 +7,7 @@ use crate::slow::SlowSource;
 use crate::stage::{Stage, served, supply};
 use base::Trace;
 use command_status::Status;
+use server_command::ServerEnd;
 use server_workers::SOURCES;
 use source_render::Numbered;
 use std::alloc::Global;
@@ -44,7 +45,7 @@ fn serve_job<R: Threads + Wait + Clock + Sync>(
     alloc: Global,
     heard: &Mutex<Vec<u8>>,
     renders: &AtomicU64,
-) -> Result<Status, Fail> {
+) -> Result<ServerEnd, Fail> {
     let link = HeardLink {
         rt,
         source: supply(alloc, JOB)?,
@@ -66,7 +67,7 @@ fn a_job_is_cancelled_when_the_last_connection_was_served(rt: HostRuntime) -> Re
     let heard = Mutex::new(Vec::new(alloc));
     let renders = AtomicU64::new(0);
     let end = serve_job(&rt, alloc, &heard, &renders)?;
-    assert!(rt; end == Status::Done);
+    assert!(rt; end == ServerEnd::Ended(Status::Done));
     assert!(rt; heard.lock(&rt).as_slice() == JOB_SUBMITTED);
     assert!(rt; renders.load(Ordering::SeqCst) < PLACES);
     Ok(())

@@ -9,6 +9,8 @@ mod answers;
 #[cfg(test)]
 mod client;
 #[cfg(test)]
+mod composites;
+#[cfg(test)]
 mod door;
 #[cfg(test)]
 mod ending;

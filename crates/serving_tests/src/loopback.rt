@@ -9,6 +9,7 @@ use crate::client::answer_to;
 use crate::held::Hold;
 use crate::stage::{Stage, held_sources, served, sources};
 use command_status::Status;
+use server_command::ServerEnd;
 use server_workers::SOURCES;
 use source_render::Source;
 use std::alloc::Global;
@@ -39,7 +40,7 @@ fn serve<R: Threads + Wait + Clock + Copy + Drop + Send + Sync, S: Source + Send
     accept: TcpAccept<R>,
     stage: Stage,
     sources: Vec<S>,
-) -> Status
+) -> ServerEnd
     requires sources { length sources.items ≡ SOURCES }
     requires connections { (1 ≤ connections) × (connections ≤ 1000000) }
 {
@@ -73,7 +74,7 @@ fn three_clients_read_one_render(rt: HostRuntime) -> Result<(), Fail> {
     let third = thread::spawn(&rt, move || ask_for_whole(&rt, alloc, port))?;
     let end = serve(&rt, alloc, 3, accept, stage, sources);
     let heard = [first.join(&rt), second.join(&rt), third.join(&rt)];
-    assert!(rt; end == Status::Done);
+    assert!(rt; end == ServerEnd::Ended(Status::Done));
     assert!(rt; count(&heard, Heard::Missed) == 1);
     assert!(rt; count(&heard, Heard::Hit) == 2);
     Ok(())
@@ -122,7 +123,7 @@ fn a_worker_serves_beside_one_that_renders(rt: HostRuntime) -> Result<(), Fail> 
     let end = serve(&rt, alloc, 2, accept, stage, sources);
     let held = held.join(&rt);
     let beside = beside.join(&rt);
-    assert!(rt; end == Status::Done);
+    assert!(rt; end == ServerEnd::Ended(Status::Done));
     assert!(rt; beside);
     assert!(rt; held);
     Ok(())
@@ -147,7 +148,7 @@ fn a_job_is_run_while_links_are_served(rt: HostRuntime) -> Result<(), Fail> {
     let client = thread::spawn(&rt, move || is_seeded(&rt, alloc, port, &hold))?;
     let end = serve(&rt, alloc, 2, accept, stage, sources);
     let seeded = client.join(&rt);
-    assert!(rt; end == Status::Done);
+    assert!(rt; end == ServerEnd::Ended(Status::Done));
     assert!(rt; seeded);
     Ok(())
 }

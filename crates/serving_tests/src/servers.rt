@@ -5,6 +5,7 @@ use crate::texts::{are_of_one_render, has};
 use base::Trace;
 use command_status::Status;
 use http_wire::{ListOfLinks, MemoryLink, MemorySink};
+use server_command::ServerEnd;
 use std::alloc::Global;
 use std::sync::{Mutex, Wait};
 use std::test::Fail;
@@ -48,7 +49,7 @@ fn a_listener_that_gives_too_few(rt: HostRuntime) -> Result<(), Fail> {
         &mut listener,
         sources(alloc)?,
     );
-    assert!(rt; end == Status::ListenFault);
+    assert!(rt; end == ServerEnd::Ended(Status::ListenFault));
     assert!(rt; end.code() == 14);
     Ok(())
 }
@@ -59,7 +60,7 @@ fn serve_two<R: Threads + Wait + std::time::Clock + Sync>(
     alloc: Global,
     first: &Mutex<Vec<u8>>,
     second: &Mutex<Vec<u8>>,
-) -> Result<Status, Fail> {
+) -> Result<ServerEnd, Fail> {
     let links = vec![in alloc; link(rt, alloc, first)?, link(rt, alloc, second)?]?;
     let mut door = Door {
         links,
@@ -76,7 +77,7 @@ fn one_renders_and_the_other_hits(rt: HostRuntime) -> Result<(), Fail> {
     let first = Mutex::new(Vec::new(alloc));
     let second = Mutex::new(Vec::new(alloc));
     let end = serve_two(&rt, alloc, &first, &second)?;
-    assert!(rt; end == Status::Done);
+    assert!(rt; end == ServerEnd::Ended(Status::Done));
     let first = first.lock(&rt);
     let second = second.lock(&rt);
     let (first, second) = (first.as_slice(), second.as_slice());

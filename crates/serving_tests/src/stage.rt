@@ -3,11 +3,10 @@ ghost use Rattle.std.specs.Prelude.{IfOk, length, ◌≡◌, ◌≤◌};
 
 use crate::held::{HeldSource, Hold};
 use base::Clock;
-use command_status::Status;
 use exact_ratio::Words;
 use fixtures::SilentDisk;
 use http_wire::{Listener, MemorySink, MemorySource};
-use server_command::run_server;
+use server_command::{ServerEnd, run_server};
 use server_workers::SOURCES;
 use source_render::{Numbered, Source};
 use std::alloc::Global;
@@ -62,19 +61,27 @@ pub fn held_sources(alloc: Global, hold: &Hold) -> Result<Vec<HeldSource>, Fail>
     Ok(sources)
 }
 
-/// What a server of the tests works with: the built-in catalogue, no capabilities document, and an empty cache.
+/// What a server of the tests works with: the built-in catalogue, no capabilities document, recipes, and an empty cache.
 #[derive(Drop)]
 pub struct Stage {
     catalogue: MemorySource,
     capabilities: MemorySource,
+    recipes: MemorySource,
     disk: SilentDisk,
 }
 
 impl Stage {
+    /// A stage without recipes.
     pub fn new(alloc: Global) -> Result<Stage, Fail> {
+        Stage::with_recipes(alloc, b"")
+    }
+
+    /// A stage whose recipes have this text.
+    pub fn with_recipes(alloc: Global, recipes: &[u8]) -> Result<Stage, Fail> {
         Ok(Stage {
             catalogue: supply(alloc, b"")?,
             capabilities: supply(alloc, b"")?,
+            recipes: supply(alloc, recipes)?,
             disk: made(alloc)?,
         })
     }
@@ -88,7 +95,7 @@ pub fn served<R: Threads + Wait + std::time::Clock + Sync, S: Source + Send, N: 
     stage: Stage,
     listener: &mut N,
     sources: Vec<S>,
-) -> Status
+) -> ServerEnd
 where
     N::L: Send,
     requires sources { length sources.items ≡ SOURCES }
@@ -97,6 +104,7 @@ where
     let Stage {
         mut catalogue,
         mut capabilities,
+        mut recipes,
         disk,
     } = stage;
     run_server(
@@ -105,6 +113,7 @@ where
         connections,
         &mut catalogue,
         &mut capabilities,
+        &mut recipes,
         listener,
         sources,
         disk,
