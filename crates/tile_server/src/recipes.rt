@@ -69,7 +69,7 @@ fn tell_place(
             tell_path(rt, name.as_str(), fault);
             return;
         }
-        before += 1;
+        before = before.saturating_add(1);
     }
 }
 
