@@ -23,7 +23,7 @@ pub use counted_disk::CountedDisk;
 pub use counted_source::CountedSource;
 pub use input::Input;
 pub use program_source::ProgramSource;
-pub use source_choice::SourceChoice;
+pub use source_choice::{RENDERER_LIMIT, SourceChoice};
 pub use source_fault::SourceFault;
 pub use stream_link::StreamLink;
 pub use watched_cache::{CacheFiles, Watch, WatchedCache};

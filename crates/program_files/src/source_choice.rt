@@ -18,7 +18,7 @@ use std::sync::{Arc, Wait};
 use std::time::Clock;
 
 /// The most bytes of the file that names a renderer.
-const RENDERER_LIMIT: usize = 65_536;
+pub const RENDERER_LIMIT: usize = 65_536;
 
 /// Which source the program has.
 #[derive(Drop)]

@@ -8,7 +8,8 @@ use disk_model::FileFault;
 use fault_paths::fault_paths;
 use gate_journal::OpenFault;
 use http_wire::{FileSource, read_all};
-use program_files::CacheDisk;
+use program_files::{CacheDisk, RENDERER_LIMIT};
+use server_command::RECIPES_LIMIT;
 use std::fs::File;
 use std::io;
 use std::io::{Eprint, ErrorKind, Read};
@@ -18,6 +19,9 @@ use std::str::from_utf8;
 
 /// The code of a command whose file another program works on.
 const IN_USE: u8 = 17;
+
+/// The most bytes of the capabilities document that a command reads.
+const CAPABILITIES_LIMIT: usize = 4_194_304;
 
 /// A file that a command worked on.
 #[derive(Clone, Copy)]
@@ -58,6 +62,11 @@ fn read_first(rt: &impl Files<File = File>, name: &str) -> io::Result<()> {
     Ok(())
 }
 
+/// How many bytes a file has now.
+fn length_of(rt: &impl Files<File = File>, name: &str) -> io::Result<u64> {
+    Ok(File::open(rt, name)?.metadata()?.len())
+}
+
 /// Tells of each of the files that are read whole what the system says now, where one is there and can't be read.
 fn tell_unreadable(rt: &(impl Files<File = File> + Eprint)) {
     for name in [CATALOGUE, CAPABILITIES, RECIPES, RENDERER] {
@@ -67,6 +76,21 @@ fn tell_unreadable(rt: &(impl Files<File = File> + Eprint)) {
             Err(error) => {
                 let _ = eprintln!(rt; "{name}: {error}");
             }
+        }
+    }
+}
+
+/// Tells of each of the files that are read whole how long it is now, where that is more than is read of it.
+fn tell_too_long(rt: &(impl Files<File = File> + Eprint)) {
+    for (name, limit) in [
+        (CATALOGUE, CATALOGUE_LIMIT),
+        (CAPABILITIES, CAPABILITIES_LIMIT),
+        (RECIPES, RECIPES_LIMIT),
+        (RENDERER, RENDERER_LIMIT),
+    ] {
+        let length = length_of(rt, name).unwrap_or(0);
+        if length > limit as u64 {
+            let _ = eprintln!(rt; "{name}: {length} bytes, and {limit} at most are read");
         }
     }
 }
@@ -101,6 +125,7 @@ pub fn end_with(
     match status {
         Status::DiskFault => files.iter().for_each(|file| file.tell(rt)),
         Status::ReadFault => tell_unreadable(rt),
+        Status::TooLong => tell_too_long(rt),
         Status::Catalogue(fault) => tell_places(rt, fault),
         Status::Cache(OpenFault::CatalogueDiffers(kept, _)) => tell_copy(rt, &kept),
         Status::Usage => {

@@ -14,6 +14,7 @@ mod carry;
 mod catalogue_copies;
 mod check_files;
 mod command;
+mod commit;
 mod compose;
 mod endings;
 mod feed;
@@ -28,6 +29,7 @@ mod twin;
 
 ghost use Rattle.std.specs.Prelude.{◌<◌, IfOk};
 
+use crate::commit::COMMIT;
 use crate::endings::end_with;
 use crate::help::{HELP, help_of};
 use base::Clock;
@@ -45,7 +47,8 @@ use std::rt::{Env, Files};
 use std::{env, io};
 use tile_grain::grain_of;
 
-const VERSION: &str = "tile_server 0.1.0\n";
+/// The version of the program.
+const VERSION: &str = "0.1.0";
 
 /// The catalogue, a file of the folder that the program is run in.
 const CATALOGUE: &str = "catalogue.json";
@@ -139,7 +142,7 @@ fn main(rt: HostRuntime) -> ExitCode {
     match top_call(words.as_slice()) {
         TopCall::Help => print_text(&rt, HELP),
         TopCall::WordHelp => print_help_of(&rt, words.as_slice()),
-        TopCall::Version => print_text(&rt, VERSION),
+        TopCall::Version => print_version(&rt),
         TopCall::Command => command::command(rt, rt, words.as_slice()),
         TopCall::Serve => serve::serve(&rt, words.as_slice(), Clock::system(rt)),
         TopCall::Feed => feed::feed(rt, words.as_slice()),
@@ -178,7 +181,7 @@ fn without_source(
 ) -> ExitCode {
     match fault {
         SourceFault::ReadFault => end_with(rt, Status::ReadFault, &[]),
-        SourceFault::TooLong => exit_code(rt, Status::TooLong),
+        SourceFault::TooLong => end_with(rt, Status::TooLong, &[]),
         SourceFault::OutOfMemory => exit_code(rt, Status::OutOfMemory),
         refused => {
             let _ = eprintln!(rt; "{refused}");
@@ -207,6 +210,14 @@ fn print_help_of(
     match text {
         Some(text) => print_text(rt, text),
         None => end_with(rt, Status::Usage, &[]),
+    }
+}
+
+/// Prints the version and the commit on standard output.
+fn print_version(rt: &(impl Print + Eprint)) -> ExitCode {
+    match println!(rt; "tile_server {VERSION} ({COMMIT})") {
+        Ok(()) => ExitCode::from(Status::Done.code()),
+        Err(_) => exit_code(rt, Status::WriteFault),
     }
 }
 
