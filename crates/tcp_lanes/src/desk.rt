@@ -169,7 +169,7 @@ impl Lobby {
 }
 
 /// Whether the system is short of descriptors or of memory.
-fn is_shortage(error: &io::Error) -> bool {
+pub fn is_shortage(error: &io::Error) -> bool {
     match error.raw_os_error() {
         Some(code) => code == ENOMEM || code == ENFILE || code == EMFILE || code == ENOBUFS,
         None => error.kind() == ErrorKind::OutOfMemory,

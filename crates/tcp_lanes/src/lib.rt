@@ -36,10 +36,14 @@ mod shared_lanes;
 mod slots;
 
 pub use accept::TcpAccept;
+pub use conn::{AnswerSent, Conn, Filled};
+pub use desk::is_shortage;
 pub use intake::{Front, Intake};
 pub use limits::{
     EMFILE, ENFILE, ENOBUFS, ENOMEM, EVENTS, HELD_BACK, IGNORED, LANES, LOOKING, LOOKS, Limits,
     PAUSE, READ_SIZE, SERVED, WATCH, WELCOMES,
 };
 pub use link::TcpLink;
+pub use lobby::time;
 pub use message_ends::{MessageEnd, may_end_head, message_end};
+pub use shared_lanes::{ALARM, LISTENING, Ready};
