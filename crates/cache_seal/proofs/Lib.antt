@@ -1,4 +1,5 @@
 pub mod Together
 pub mod Apart
 pub mod Blobs
+pub mod Counts
 pub mod Restoring

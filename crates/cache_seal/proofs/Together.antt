@@ -1,9 +1,7 @@
 -- Seals one after the other.
-use Rattle.std.proofs.Common.{ℕ, ◌≡◌, ◌≢◌, ◌⊎◌, ◌+◌, ◌/◌, ◌<◌, ◌≤◌, Bool, IsTrue, List, [], ◌∷◌, ◌++◌, fold, length-append, refl, sym, ap, subst, ◌∙◌, inl, inr, arith}
+use Rattle.std.proofs.Common.{ℕ, ◌≡◌, ◌≢◌, ◌+◌, ◌/◌, Bool, IsTrue, List, [], ◌∷◌, ◌++◌, fold, length-append, refl, sym, ap, subst, ◌∙◌}
 use Rattle.std.specs.List.{AllByRecursion, AllZip}
-use Rattle.std.proofs.lemmas.Bool.{cases_lt}
 use Rattle.std.proofs.lemmas.List.Sums.{fold-append}
-use Rattle.base.specs.Causes.{Rose}
 use Rattle.disk_model.specs.Content.{Content}
 use Rattle.summed_disk.specs.Entries.{entry_at, sum_at}
 use Rattle.cache_seal.specs.declared.counting.Fate.{Fate}
@@ -121,32 +119,3 @@ tiles_more t t' fate.Sealed is = ap (λ (x : SealTally). x.tiles) is
 tiles_more t t' fate.Fitted is = ap (λ (x : SealTally). x.tiles) is
 tiles_more t t' fate.Unfit is = ap (λ (x : SealTally). x.tiles) is
 tiles_more t t' fate.Unread is = ap (λ (x : SealTally). x.tiles) is
-
--- the count of unread tiles rises with one that is unread
-unread_one : (t t' : SealTally) (f : Fate) → t' ≡ noted t f → t.unread < t'.unread → f ≡ fate.Unread
-unread_one t t' fate.Sealed is more = let e = ap (λ (x : SealTally). x.unread) is in absurd (omega (arith, e, more))
-unread_one t t' fate.Fitted is more = let e = ap (λ (x : SealTally). x.unread) is in absurd (omega (arith, e, more))
-unread_one t t' fate.Unfit is more = let e = ap (λ (x : SealTally). x.unread) is in absurd (omega (arith, e, more))
-unread_one t t' fate.Unread is more = refl
-
-pub rose_before : (a b d : ℕ) → b ≤ d → Rose a b → Rose a d
-rose_before a b d le rose = omega (arith, le, rose)
-
-pub rose_after : (a b d : ℕ) → a ≤ b → Rose b d → Rose a d
-rose_after a b d le rose = omega (arith, le, rose)
-
--- the first counts of the disk, and the second ones of the sums
-pub unread_then : (n0 n1 n2 a0 a1 a2 b0 b1 b2 : ℕ) → a0 ≤ a1 → a1 ≤ a2 → b0 ≤ b1 → b1 ≤ b2 → (n0 < n1 → Rose a0 a1 ⊎ Rose b0 b1) → (n1 < n2 → Rose a1 a2 ⊎ Rose b1 b2) → n0 < n2 → Rose a0 a2 ⊎ Rose b0 b2
-unread_then n0 n1 n2 a0 a1 a2 b0 b1 b2 a01 a12 b01 b12 one two more = elim (cases_lt n0 n1) [
-  | inl lt ↦ elim (one lt) [
-    | inl rose ↦ inl (rose_before a0 a1 a2 a12 rose)
-    | inr rose ↦ inr (rose_before b0 b1 b2 b12 rose)
-  ]
-  | inr le ↦ elim (two (omega (arith, le, more))) [
-    | inl rose ↦ inl (rose_after a0 a1 a2 a01 rose)
-    | inr rose ↦ inr (rose_after b0 b1 b2 b01 rose)
-  ]
-]
-
-pub unread_noted : (t t' : SealTally) (f : Fate) (a0 a1 b0 b1 : ℕ) → t' ≡ noted t f → (f ≡ fate.Unread → Rose a0 a1 ⊎ Rose b0 b1) → t.unread < t'.unread → Rose a0 a1 ⊎ Rose b0 b1
-unread_noted t t' f a0 a1 b0 b1 is cause more = cause (unread_one t t' f is more)

@@ -3,3 +3,4 @@ pub mod Fates
 pub mod OfCache
 pub mod Seals
 pub mod Tiles
+pub mod Unread

@@ -1,10 +1,10 @@
 //! How a cache is sealed.
-ghost use Rattle.std.specs.Prelude.{◌≡◌, ◌⊎◌, ◌≤◌, ◌<◌, ◌^◌, IfErr, IfOk, IsTrue, OnOk, length};
-ghost use Rattle.base.specs.Causes.{Rose};
+ghost use Rattle.std.specs.Prelude.{◌≡◌, ◌≤◌, ◌<◌, ◌^◌, IfErr, IfOk, IsTrue, OnOk, length};
 ghost use Rattle.cache_seal.specs.Fates.{AddsUp, no_tally};
 ghost use Rattle.cache_seal.specs.OfCache.{kept_tiles};
 ghost use Rattle.cache_seal.specs.Ends.{IsKeptSo, IsLateFault, IsSealFault, IsSealed};
 ghost use Rattle.cache_seal.specs.Seals.{HasSealed};
+ghost use Rattle.cache_seal.specs.Unread.{HaveFaults};
 ghost use Rattle.catalog.specs.Valid.{IsValid};
 ghost use Rattle.disk_model.specs.Content.{Same};
 ghost use Rattle.disk_model.specs.Images.{ChangesBy, Only};
@@ -55,7 +55,7 @@ fn seal_durably<D: Disk, S: Disk>(
     ensures sealed { IfOk result (HasSealed (D.told disk.old) (S.told sums.old) rule.grain rule.anew (D.state disk.old).seen (kept_tiles start catalogue.now kept.now) (S.state sums.old).seen (S.state sums.new).seen no_tally) }
     ensures sum { IfOk result AddsUp }
     ensures many { IfOk result (λ tally. tally.tiles ≡ length (kept_tiles start catalogue.now kept.now)) }
-    ensures unread { IfOk result (λ tally. 1 ≤ tally.unread → Rose (D.faults disk.old) (D.faults disk.new) ⊎ Rose (S.faults sums.old) (S.faults sums.new)) }
+    ensures unread { IfOk result (λ tally. HaveFaults 0 tally.unread (D.faults disk.old) (D.faults disk.new) (S.faults sums.old) (S.faults sums.new)) }
     ensures durable { IsTrue (S.told sums.old) → OnOk result (Only (S.state sums.new).seen (S.state sums.new).may_leave) }
     ensures failed { IfErr result (IsLateFault (S.faults sums.old) (S.faults sums.new)) }
 {
@@ -91,7 +91,7 @@ fn seal_restored<D: Disk, S: Disk>(
     ensures sealed { IfOk result.end (HasSealed (D.told disk) (S.told sums) rule.grain rule.anew (D.state disk).seen (kept_tiles (blobs_start catalogue.now) catalogue.now kept.now) (S.state sums).seen (S.state result.sums).seen no_tally) }
     ensures sum { IfOk result.end AddsUp }
     ensures many { IfOk result.end (λ tally. tally.tiles ≡ length (kept_tiles (blobs_start catalogue.now) catalogue.now kept.now)) }
-    ensures unread { IfOk result.end (λ tally. 1 ≤ tally.unread → Rose (D.faults disk) (D.faults result.disk) ⊎ Rose (S.faults sums) (S.faults result.sums)) }
+    ensures unread { IfOk result.end (λ tally. HaveFaults 0 tally.unread (D.faults disk) (D.faults result.disk) (S.faults sums) (S.faults result.sums)) }
     ensures durable { IsTrue (S.told sums) → OnOk result.end (Only (S.state result.sums).seen (S.state result.sums).may_leave) }
     ensures failed { IfErr result.end (IsLateFault (S.faults sums) (S.faults result.sums)) }
 {
@@ -107,7 +107,8 @@ fn seal_restored<D: Disk, S: Disk>(
 /// to what is counted.
 ///
 /// The cache isn't opened: its disk is only read and synced, and at each moment a crash leaves of it what it might have left before. A tile that
-/// couldn't be read, or whose sum couldn't, is counted, and what stands there stays; that is only where one of the two counts of faults rose.
+/// couldn't be read, or whose sum couldn't, is counted, and what stands there stays; each such tile has a fault of its own, by which the count of
+/// one of the two disks rose (`specs/Unread.antt`).
 /// A crash within leaves some sums written and others not: a `SummedDisk` gives no tile but one that has its sum, so such a tile isn't given until
 /// it is sealed or rendered anew.
 ///
@@ -128,7 +129,7 @@ pub fn seal<D: Disk, S: Disk>(
     ensures told { S.told result.sums ≡ S.told sums }
     ensures later { S.faults sums ≤ S.faults result.sums }
     ensures sealed { IfOk result.end (IsSealed (D.told disk) (S.told sums) catalogue.now rule.grain rule.anew (D.state disk).seen (S.state sums).seen (S.state result.sums).seen) }
-    ensures unread { IfOk result.end (λ tally. 1 ≤ tally.unread → Rose (D.faults disk) (D.faults result.disk) ⊎ Rose (S.faults sums) (S.faults result.sums)) }
+    ensures unread { IfOk result.end (λ tally. HaveFaults 0 tally.unread (D.faults disk) (D.faults result.disk) (S.faults sums) (S.faults result.sums)) }
     ensures durable { IsTrue (S.told sums) → OnOk result.end (Only (S.state result.sums).seen (S.state result.sums).may_leave) }
     ensures cause { IfErr result.end (IsSealFault (D.told disk) catalogue.now (D.state disk).seen (D.faults disk) (D.faults result.disk) (S.faults sums) (S.faults result.sums) (result.sums ≡ sums)) }
 {

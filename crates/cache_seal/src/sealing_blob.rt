@@ -1,9 +1,10 @@
 //! The sums of the tiles of one blob.
-ghost use Rattle.std.specs.Prelude.{◌≡◌, ◌⊎◌, ◌≤◌, ◌<◌, ◌+◌, ◌*◌, ◌^◌, IsTrue, OnOk, length};
-ghost use Rattle.base.specs.Causes.{HasCause, Rose};
+ghost use Rattle.std.specs.Prelude.{◌≡◌, ◌≤◌, ◌<◌, ◌+◌, ◌*◌, ◌^◌, IsTrue, OnOk, length};
+ghost use Rattle.base.specs.Causes.{HasCause};
 ghost use Rattle.cache_seal.specs.Fates.{AddsUp};
 ghost use Rattle.cache_seal.specs.Seals.{HasSealed};
 ghost use Rattle.cache_seal.specs.Tiles.{tiles_in};
+ghost use Rattle.cache_seal.specs.Unread.{HaveFaults};
 ghost use Rattle.disk_model.specs.Content.{Same};
 ghost use Rattle.disk_model.specs.Images.{ChangesBy};
 
@@ -37,7 +38,7 @@ pub(crate) fn seal_blob<D: Disk, S: Disk>(
     ensures sealed { OnOk result (HasSealed (D.told disk.old) (S.told sums.old) rule.grain rule.anew (D.state disk.old).seen (tiles_in tiles) (S.state sums.old).seen (S.state sums.new).seen tally.old tally.new) }
     ensures sum { OnOk result (AddsUp tally.new) }
     ensures many { OnOk result (tally.new.tiles ≡ tally.old.tiles + tiles.count) }
-    ensures unread { OnOk result (tally.old.unread < tally.new.unread → Rose (D.faults disk.old) (D.faults disk.new) ⊎ Rose (S.faults sums.old) (S.faults sums.new)) }
+    ensures unread { OnOk result (HaveFaults tally.old.unread tally.new.unread (D.faults disk.old) (D.faults disk.new) (S.faults sums.old) (S.faults sums.new)) }
     ensures cause { HasCause (S.faults sums.old) (S.faults sums.new) result }
 {
     'sealing: for place in 0..tiles.count {

@@ -7,6 +7,7 @@ ghost use Rattle.cache_seal.specs.Fates.{AddsUp, no_tally};
 ghost use Rattle.cache_seal.specs.OfCache.{blob_tiles, kept_tiles, tile_length};
 ghost use Rattle.cache_seal.specs.Seals.{HasSealed};
 ghost use Rattle.cache_seal.specs.Tiles.{tiles_in};
+ghost use Rattle.cache_seal.specs.Unread.{HaveFaults};
 ghost use Rattle.catalog.specs.Valid.{IsValid};
 ghost use Rattle.disk_model.specs.Content.{Same};
 ghost use Rattle.disk_model.specs.Images.{ChangesBy};
@@ -90,7 +91,7 @@ fn seal_kept<D: Disk, S: Disk>(
     ensures sum { OnOk result (AddsUp tally.new) }
     ensures many { OnOk result (tally.new.tiles ≡ tally.old.tiles + (blob_tiles start catalogue.now kept).count) }
     ensures few { OnOk result (tally.new.tiles < tally.old.tiles + 2 ^ 32) }
-    ensures unread { OnOk result (tally.old.unread < tally.new.unread → Rose (D.faults disk.old) (D.faults disk.new) ⊎ Rose (S.faults sums.old) (S.faults sums.new)) }
+    ensures unread { OnOk result (HaveFaults tally.old.unread tally.new.unread (D.faults disk.old) (D.faults disk.new) (S.faults sums.old) (S.faults sums.new)) }
     ensures failed { IfErr result (λ fault. (fault ≡ SealFault.OutOfMemory) ⊎ ((fault ≡ SealFault.Sums) × Rose (S.faults sums.old) (S.faults sums.new))) }
 {
     let tiles = blob_tiles(catalogue, rule.grain, start, &kept);
@@ -132,7 +133,7 @@ pub(crate) fn seal_all<D: Disk, S: Disk>(
     ensures sealed { IfOk result (HasSealed (D.told disk.old) (S.told sums.old) rule.grain rule.anew (D.state disk.old).seen (kept_tiles start catalogue.now kept.now) (S.state sums.old).seen (S.state sums.new).seen no_tally) }
     ensures sum { IfOk result AddsUp }
     ensures many { IfOk result (λ tally. tally.tiles ≡ length (kept_tiles start catalogue.now kept.now)) }
-    ensures unread { IfOk result (λ tally. 1 ≤ tally.unread → Rose (D.faults disk.old) (D.faults disk.new) ⊎ Rose (S.faults sums.old) (S.faults sums.new)) }
+    ensures unread { IfOk result (λ tally. HaveFaults 0 tally.unread (D.faults disk.old) (D.faults disk.new) (S.faults sums.old) (S.faults sums.new)) }
     ensures failed { IfErr result (λ fault. (fault ≡ SealFault.OutOfMemory) ⊎ ((fault ≡ SealFault.Sums) × Rose (S.faults sums.old) (S.faults sums.new))) }
 {
     let mut tally = SealTally::none();

@@ -6,7 +6,8 @@ use Rattle.cache_seal.specs.declared.tiles.DiskTile.{DiskTile}
 use Rattle.cache_seal.specs.Seals.{AreSealed, HasSealed}
 use Rattle.cache_seal.specs.Tiles.{first_tiles, nth_tile}
 use Rattle.cache_seal.proofs.Apart.{apart_next}
-use Rattle.cache_seal.proofs.Together.{one_sealed, then_sealed, tiles_more, unread_noted, unread_then}
+use Rattle.cache_seal.proofs.Counts.{faults_then, noted_with_fault}
+use Rattle.cache_seal.proofs.Together.{one_sealed, then_sealed, tiles_more}
 use Rattle.cache_seal.proofs.sealing_blob.seal_blob.Goals as goal
 
 pub sealing-preserved : goal.sealing-preserved
@@ -48,7 +49,6 @@ sealing-preserved g c =
           (then_sealed told sums_told grain anew first.seen (first_tiles b i) (nth_tile b i ∷ []) old mid new t0 t1 t2 (apart_next grain b i (let h = c.requires.grain in omega (arith, h)) c.requires.long) inv.sealed this);
       sum = c.note.ensures.sum;
       many = let e = tiles_more t1 t2 f noted in let m = inv.many in omega (arith, e, m);
-      unread = unread_then t0.unread t1.unread t2.unread (g.D.Disk.faults c.args.disk.now) (g.D.Disk.faults c.sealing.disk) (g.D.Disk.faults c.seal_tile.new.disk) (g.S.Disk.faults c.args.sums.now) (g.S.Disk.faults c.sealing.sums) (g.S.Disk.faults c.seal_tile.new.sums)
-          inv.disk_later did.disk_later inv.later did.cause.later inv.unread
-          (unread_noted t1 t2 f (g.D.Disk.faults c.sealing.disk) (g.D.Disk.faults c.seal_tile.new.disk) (g.S.Disk.faults c.sealing.sums) (g.S.Disk.faults c.seal_tile.new.sums) noted c.in-Ok.ensures.unread);
+      unread = faults_then t0.unread t1.unread t2.unread (g.D.Disk.faults c.args.disk.now) (g.D.Disk.faults c.sealing.disk) (g.D.Disk.faults c.seal_tile.new.disk) (g.S.Disk.faults c.args.sums.now) (g.S.Disk.faults c.sealing.sums) (g.S.Disk.faults c.seal_tile.new.sums) inv.unread
+          (noted_with_fault t1 t2 f (g.D.Disk.faults c.sealing.disk) (g.D.Disk.faults c.seal_tile.new.disk) (g.S.Disk.faults c.sealing.sums) (g.S.Disk.faults c.seal_tile.new.sums) noted did.disk_later did.cause.later c.in-Ok.ensures.unread);
     }

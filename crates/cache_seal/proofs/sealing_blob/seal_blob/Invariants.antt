@@ -1,10 +1,10 @@
-use Rattle.std.proofs.Common.{◌≡◌, ◌⊎◌, ◌+◌, ◌<◌, ◌≤◌, IsTrue}
-use Rattle.base.specs.Causes.{Rose}
+use Rattle.std.proofs.Common.{◌≡◌, ◌+◌, ◌≤◌, IsTrue}
 use Rattle.disk_model.specs.Content.{Same}
 use Rattle.disk_model.specs.Images.{ChangesBy}
 use Rattle.cache_seal.specs.Fates.{AddsUp}
 use Rattle.cache_seal.specs.Seals.{HasSealed}
 use Rattle.cache_seal.specs.Tiles.{first_tiles}
+use Rattle.cache_seal.specs.Unread.{HaveFaults}
 use Rattle.cache_seal.proofs.sealing_blob.seal_blob.Given as goal
 
 abbrev pub invariant-sealing : goal.invariant-sealing
@@ -17,5 +17,5 @@ invariant-sealing g l = record {
   sealed : HasSealed (g.D.Disk.told l.fn.disk) (g.S.Disk.told l.fn.sums) l.rule.grain l.rule.anew (g.D.Disk.state l.fn.disk).seen (first_tiles l.tiles l.place) (g.S.Disk.state l.fn.sums).seen (g.S.Disk.state l.sums).seen l.fn.tally l.tally;
   sum : AddsUp l.tally;
   many : l.tally.tiles ≡ l.fn.tally.tiles + l.place;
-  unread : l.fn.tally.unread < l.tally.unread → Rose (g.D.Disk.faults l.fn.disk) (g.D.Disk.faults l.disk) ⊎ Rose (g.S.Disk.faults l.fn.sums) (g.S.Disk.faults l.sums);
+  unread : HaveFaults l.fn.tally.unread l.tally.unread (g.D.Disk.faults l.fn.disk) (g.D.Disk.faults l.disk) (g.S.Disk.faults l.fn.sums) (g.S.Disk.faults l.sums);
 }

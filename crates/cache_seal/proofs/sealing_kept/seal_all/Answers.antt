@@ -10,7 +10,8 @@ use Rattle.cache_seal.specs.OfCache.{blob_tiles, kept_tiles, tile_length}
 use Rattle.cache_seal.specs.Seals.{HasSealed}
 use Rattle.cache_seal.specs.Tiles.{nth_tile, tiles_in}
 use Rattle.cache_seal.proofs.Blobs.{all_at, all_taken, apart_before, kept_apart, tiles_next, wide_all}
-use Rattle.cache_seal.proofs.Together.{same_sealed, then_sealed, unread_then}
+use Rattle.cache_seal.proofs.Counts.{faults_then}
+use Rattle.cache_seal.proofs.Together.{same_sealed, then_sealed}
 use Rattle.cache_seal.proofs.sealing_kept.seal_all.Goals as goal
 
 pub seal_kept-requires-clause-meta : goal.seal_kept-requires-clause-meta
@@ -66,8 +67,7 @@ sealing-preserved g c =
       sum = here.sum;
       many = let a = inv.many in let b = here.many in let e = length-append us vs in let m = ap (λ (l : List DiskTile). length l) more in omega (arith, a, b, e, m, long);
       few = let a = inv.few in let b = here.few in omega (arith, a, b);
-      unread = unread_then 0 t1.unread t2.unread (g.D.Disk.faults c.args.disk.now) (g.D.Disk.faults c.sealing.disk) (g.D.Disk.faults c.seal_kept.new.disk) (g.S.Disk.faults c.args.sums.now) (g.S.Disk.faults c.sealing.sums) (g.S.Disk.faults c.seal_kept.new.sums)
-          inv.disk_later did.disk_later inv.later did.later inv.unread here.unread;
+      unread = faults_then 0 t1.unread t2.unread (g.D.Disk.faults c.args.disk.now) (g.D.Disk.faults c.sealing.disk) (g.D.Disk.faults c.seal_kept.new.disk) (g.S.Disk.faults c.args.sums.now) (g.S.Disk.faults c.sealing.sums) (g.S.Disk.faults c.seal_kept.new.sums) inv.unread here.unread;
     }
 
 pub returns-clause-sealed : goal.returns-clause-sealed

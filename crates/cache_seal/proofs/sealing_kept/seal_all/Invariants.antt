@@ -1,10 +1,10 @@
-use Rattle.std.proofs.Common.{◌≡◌, ◌⊎◌, ◌*◌, ◌<◌, ◌≤◌, IsTrue, length, take}
-use Rattle.base.specs.Causes.{Rose}
+use Rattle.std.proofs.Common.{◌≡◌, ◌*◌, ◌≤◌, IsTrue, length, take}
 use Rattle.disk_model.specs.Content.{Same}
 use Rattle.disk_model.specs.Images.{ChangesBy}
 use Rattle.cache_seal.specs.Fates.{AddsUp, no_tally}
 use Rattle.cache_seal.specs.OfCache.{kept_tiles}
 use Rattle.cache_seal.specs.Seals.{HasSealed}
+use Rattle.cache_seal.specs.Unread.{HaveFaults}
 use Rattle.cache_seal.proofs.sealing_kept.seal_all.Given as goal
 
 abbrev pub invariant-sealing : goal.invariant-sealing
@@ -18,5 +18,5 @@ invariant-sealing g l = record {
   sum : AddsUp l.tally;
   many : l.tally.tiles ≡ length (kept_tiles l.start l.catalogue (take l.at l.kept));
   few : l.tally.tiles ≤ l.at * 4294967296;
-  unread : 0 < l.tally.unread → Rose (g.D.Disk.faults l.fn.disk) (g.D.Disk.faults l.disk) ⊎ Rose (g.S.Disk.faults l.fn.sums) (g.S.Disk.faults l.sums);
+  unread : HaveFaults 0 l.tally.unread (g.D.Disk.faults l.fn.disk) (g.D.Disk.faults l.disk) (g.S.Disk.faults l.fn.sums) (g.S.Disk.faults l.sums);
 }
