@@ -1,7 +1,7 @@
 -- What a visit came to: to a metatile by its three events, to a cut by its reply.
-use Rattle.std.specs.Prelude.{Contains, IfErr, Result, Ok, Err, slice_get}
+use Rattle.std.specs.Prelude.{Contains, if◌then◌else◌, IfErr, Result, Ok, Err, slice_get}
 use Rattle.std.specs.declared.alloc.AllocError.{AllocError}
-use Rattle.std.proofs.Common.{◌≡◌, ◌≤◌, ◌+◌, ℕ, Bool, false, List, [], ◌∷◌, Option, Some, inl, inr, refl, sym, ap, subst, ◌∙◌, arith}
+use Rattle.std.proofs.Common.{◌≡◌, ◌≤◌, ◌+◌, ℕ, Bool, true, false, List, [], ◌∷◌, Option, Some, refl, sym, ap, subst, ◌∙◌, arith}
 use Rattle.std.proofs.lemmas.List.Elements.{Contains-get_or}
 use Rattle.std.proofs.lemmas.Option.{get_or_from_slice_get, slice_get_within}
 use Rattle.cabinet.specs.Commands.{Cuts, IsCountedCut}
@@ -30,6 +30,7 @@ use Rattle.base.specs.Causes.{Rose, RoseBy}
 use Rattle.job_places.specs.declared.place.PlaceEnd.{PlaceEnd}
 use Rattle.cache_access.specs.declared.refreshed.Refreshed.TheVariants as refreshed
 use Rattle.job_places.specs.declared.place.PlaceEnd.TheVariants.{Done, Failed, Unkept}
+use Rattle.job_places.specs.declared.place.PlaceFault.{PlaceFault}
 use Rattle.job_places.specs.declared.place.PlaceFault.TheVariants as fault
 use Rattle.job_places.specs.Ends.{end_of_cut, end_of_refresh}
 use Rattle.job_places.specs.Visits.{IsVisit, IsWorkAt, Truncates, Visit, forces, visit_of}
@@ -37,8 +38,9 @@ use Rattle.job_forms.specs.declared.job.Job.{Job}
 use Rattle.job_forms.specs.Places.{Metatile, Cut, Place, places}
 use Rattle.job_words.specs.Coming.{ComesTo}
 use Rattle.job_words.specs.Run.{failed_by, is_disk, is_source}
-use Rattle.job_words.specs.Visit.{CutsOnce, EndsBy}
+use Rattle.job_words.specs.Visit.{CutsOnce, EndsBy, ends_keeping}
 use Rattle.job_words.proofs.Carrying.{CarriesOn, carries}
+use Rattle.job_words.proofs.Keeping.{KeepsSo, came_keeps}
 use Rattle.job_words.proofs.AtRest.{cut_rests, refreshed_done}
 use Rattle.metatile_plan.specs.declared.metatile.MetaKey.{MetaKey}
 use Rattle.raster_field.specs.Blocks.{IsMeta, first_tile}
@@ -58,19 +60,21 @@ none_rose : (before after : ℕ) → before ≤ after → RoseBy 0 before after
 none_rose before after later = omega arith
 
 -- a place fails by the source where its tile does, and by no fault of the disk
-source_same : (o : cached.TileOutcome) (e : PlaceEnd) → EndsBy o e → failing (Some o) ≡ failed_by is_source e
-source_same (outcome.Tile tile) e (inl is) = ap (failed_by is_source) (sym is)
-source_same (outcome.Tile tile) e (inr is) = ap (failed_by is_source) (sym is)
-source_same outcome.SourceFailed e is = ap (failed_by is_source) (sym is)
-source_same outcome.Spent e is = ap (failed_by is_source) (sym is)
-source_same outcome.NoMemory e is = ap (failed_by is_source) (sym is)
+none_by_tile : (which : PlaceFault → Bool) (kept : Bool) → failed_by which (if kept then Done else Unkept) ≡ 0
+none_by_tile which true = refl
+none_by_tile which false = refl
 
-disk_none : (o : cached.TileOutcome) (e : PlaceEnd) → EndsBy o e → failed_by is_disk e ≡ 0
-disk_none (outcome.Tile tile) e (inl is) = ap (failed_by is_disk) is
-disk_none (outcome.Tile tile) e (inr is) = ap (failed_by is_disk) is
-disk_none outcome.SourceFailed e is = ap (failed_by is_disk) is
-disk_none outcome.Spent e is = ap (failed_by is_disk) is
-disk_none outcome.NoMemory e is = ap (failed_by is_disk) is
+source_same : (u : State) (o : cached.TileOutcome) (e : PlaceEnd) → EndsBy u o e → failing (Some o) ≡ failed_by is_source e
+source_same u (outcome.Tile tile) e is = sym (ap (failed_by is_source) is ∙ none_by_tile is_source (ends_keeping u.history))
+source_same u outcome.SourceFailed e is = ap (failed_by is_source) (sym is)
+source_same u outcome.Spent e is = ap (failed_by is_source) (sym is)
+source_same u outcome.NoMemory e is = ap (failed_by is_source) (sym is)
+
+disk_none : (u : State) (o : cached.TileOutcome) (e : PlaceEnd) → EndsBy u o e → failed_by is_disk e ≡ 0
+disk_none u (outcome.Tile tile) e is = ap (failed_by is_disk) is ∙ none_by_tile is_disk (ends_keeping u.history)
+disk_none u outcome.SourceFailed e is = ap (failed_by is_disk) is
+disk_none u outcome.Spent e is = ap (failed_by is_disk) is
+disk_none u outcome.NoMemory e is = ap (failed_by is_disk) is
 
 with_none : (n m before after : ℕ) → m ≡ 0 → RoseBy n before after → RoseBy (n + m) before after
 with_none n m before after none rose = omega (arith, none, rose)
@@ -84,7 +88,7 @@ module _ (told : Option ℕ) (renders disk : FaultCounts) (force : Bool) (s : St
   done : IsDone (ends t o)
   done = let P : Stepped → Type 0 = IsDone in subst P (sym h.made) (refreshed_done force s m h.chances rest)
 
-  refresh_comes : (e : PlaceEnd) → EndsBy o e → (told ≡ Some s.catalogue.source → IsSound s → IsSound t) → ComesTo told renders disk force s (Metatile m) e t
+  refresh_comes : (e : PlaceEnd) → EndsBy t o e → (told ≡ Some s.catalogue.source → IsSound s → IsSound t) → ComesTo told renders disk force s (Metatile m) e t
   refresh_comes e by still =
       record {
         chances = h.chances;
@@ -92,14 +96,14 @@ module _ (told : Option ℕ) (renders disk : FaultCounts) (force : Bool) (s : St
         later = h.moves.later;
         disk_later = h.disk_later;
         failed = failed_so (h.moves.failed renders.before 0 (none_rose renders.before renders.before (omega arith)));
-        faults = with_none _ (failed_by is_disk e) disk.before disk.after (disk_none o e by) h.faults;
+        faults = with_none _ (failed_by is_disk e) disk.before disk.after (disk_none t o e by) h.faults;
         sound = still;
         catalogue = h.moves.catalogue;
         rests = done.rests;
       }
     where
       failed_so : RoseBy (0 + (failing (Some o) + 0)) renders.before renders.after → RoseBy (failed_by is_source e) renders.before renders.after
-      failed_so rose = let same : failing (Some o) ≡ failed_by is_source e = source_same o e by in omega (arith, same, rose)
+      failed_so rose = let same : failing (Some o) ≡ failed_by is_source e = source_same t o e by in omega (arith, same, rose)
 
 -- A CUT
 
@@ -190,13 +194,16 @@ cause_of (Ok x) Cause h = tt
 cause_of (Err e) Cause h = λ is. h (ap Err is)
 
 -- the place ends by its refresh as by the outcome of its tile
-same_end : (r : Result Refreshed GetFault) (o : cached.TileOutcome) → RefreshEndsAs r o → EndsBy o (end_of_refresh r)
-same_end (Ok (refreshed.AlreadyKept n)) o so = subst (λ (x : cached.TileOutcome). EndsBy x Done) (sym so.1) (inl refl)
-same_end (Ok (refreshed.Made n)) o so = subst (λ (x : cached.TileOutcome). EndsBy x Done) (sym so.1) (inl refl)
-same_end (Ok (refreshed.Unkept n)) o so = subst (λ (x : cached.TileOutcome). EndsBy x Unkept) (sym so.1) (inr refl)
-same_end (Err got.SourceFault) o so = subst (λ (x : cached.TileOutcome). EndsBy x (Failed fault.Source)) (sym so) refl
-same_end (Err got.Spent) o so = subst (λ (x : cached.TileOutcome). EndsBy x (Failed fault.Spent)) (sym so) refl
-same_end (Err got.OutOfMemory) o so = subst (λ (x : cached.TileOutcome). EndsBy x (Failed fault.Memory)) (sym so) refl
+tile_end : (kept is : Bool) → kept ≡ is → (if is then Done else Unkept) ≡ (if kept then Done else Unkept)
+tile_end kept is same = ap (λ (b : Bool). if b then Done else Unkept) (sym same)
+
+same_end : (u : State) (r : Result Refreshed GetFault) (o : cached.TileOutcome) → RefreshEndsAs r o → KeepsSo u r → EndsBy u o (end_of_refresh r)
+same_end u (Ok (refreshed.AlreadyKept n)) o so keeps = subst (λ (x : cached.TileOutcome). EndsBy u x Done) (sym so.1) (tile_end (ends_keeping u.history) true keeps)
+same_end u (Ok (refreshed.Made n)) o so keeps = subst (λ (x : cached.TileOutcome). EndsBy u x Done) (sym so.1) (tile_end (ends_keeping u.history) true keeps)
+same_end u (Ok (refreshed.Unkept n)) o so keeps = subst (λ (x : cached.TileOutcome). EndsBy u x Unkept) (sym so.1) (tile_end (ends_keeping u.history) false keeps)
+same_end u (Err got.SourceFault) o so keeps = subst (λ (x : cached.TileOutcome). EndsBy u x (Failed fault.Source)) (sym so) refl
+same_end u (Err got.Spent) o so keeps = subst (λ (x : cached.TileOutcome). EndsBy u x (Failed fault.Spent)) (sym so) refl
+same_end u (Err got.OutOfMemory) o so keeps = subst (λ (x : cached.TileOutcome). EndsBy u x (Failed fault.Memory)) (sym so) refl
 
 module _ (told : Option ℕ) (before after : ℕ) (x y : Shown) (job : Job) (rest : IsAtRest x.state) where
   abbrev Truth : Type 0
@@ -219,7 +226,7 @@ module _ (told : Option ℕ) (before after : ℕ) (x y : Shown) (job : Job) (res
         let force = forces job.kind in
         let runs = refreshes m force gained work.answer (metas m (contains_at (places x.state.catalogue job) place (Metatile m) at)) steps work.came_to work.later (cause_of work.answer (Rose before after) work.cause) in
         subst (λ (e : PlaceEnd). ComesTo told (counts before after) (counts x.faults y.faults) force x.state (Metatile m) e y.state) (sym work.ended)
-        (refresh_comes told (counts before after) (counts x.faults y.faults) force x.state m runs.0 y.state rest (carries before after x.faults y.faults x.state (first_tile x.state.catalogue m) force runs.0 y.state runs.1) (end_of_refresh work.answer) (same_end work.answer runs.0 runs.2) still)
+        (refresh_comes told (counts before after) (counts x.faults y.faults) force x.state m runs.0 y.state rest (carries before after x.faults y.faults x.state (first_tile x.state.catalogue m) force runs.0 y.state runs.1) (end_of_refresh work.answer) (same_end y.state work.answer runs.0 runs.2 (came_keeps x.state.catalogue y Truth m force (fronted (now x.state)) x gained work.answer steps work.came_to)) still)
     comes_at (Cut cover) at work =
         subst (λ (e : PlaceEnd). ComesTo told (counts before after) (counts x.faults y.faults) (forces job.kind) x.state (Cut cover) e y.state) (sym work.0.2)
         (cut_comes told before after x y (forces job.kind) cover work.0.0 rest work.1 (cut_so x y cover gained work.0.0 work.0.1 steps) still)

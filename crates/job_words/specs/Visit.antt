@@ -1,7 +1,9 @@
 -- A visit to a place of a job, by a thread that has the cabinet for itself, as the events of its metatile, or the row of its cut.
-use Rattle.std.specs.Prelude.{◌⊎◌, ◌≡◌, Bool, Result, Ok, Err}
+use Rattle.std.specs.Prelude.{◌≡◌, Bool, true, false, fold, if◌then◌else◌, List, Result, Ok, Err}
 use Rattle.std.specs.declared.alloc.AllocError.{AllocError}
 use Rattle.cabinet.specs.Commands.{Cuts}
+use Rattle.cabinet.specs.declared.entry.HistoryEntry.{HistoryEntry}
+use Rattle.cabinet.specs.declared.entry.HistoryEntry.TheVariants as entry
 use Rattle.cabinet.specs.declared.replies.CutReply.{CutReply}
 use Rattle.cabinet.specs.State.{State}
 use Rattle.cache_core.specs.declared.outcome.TileOutcome.{TileOutcome}
@@ -31,16 +33,36 @@ abbrev pub refreshed : Bool → State → MetaKey → Chances → Stepped
 refreshed force s m c =
     further c.ending (further c.rendering (began s (first_tile s.catalogue m) force c.asking.ask c.asking.moment c.asking.unread c.asking.bytes))
 
--- how the outcome of its tile ends the place: a tile that is rendered may be left unstored
-abbrev pub EndsBy : TileOutcome → PlaceEnd → Type 0
-EndsBy (outcome.Tile tile) e = (e ≡ Done) ⊎ (e ≡ Unkept)
-EndsBy outcome.SourceFailed e = e ≡ Failed fault.Source
-EndsBy outcome.Spent e = e ≡ Failed fault.Spent
-EndsBy outcome.NoMemory e = e ≡ Failed fault.Memory
+-- a metatile is kept by what happened, or was kept and is used
+abbrev pub is_keeping : HistoryEntry → Bool
+is_keeping (entry.At moment) = false
+is_keeping (entry.Started number m) = false
+is_keeping (entry.Cut number cover) = false
+is_keeping (entry.Missed number) = false
+is_keeping (entry.Stored number m place length moment uses) = true
+is_keeping (entry.Counted m uses) = false
+is_keeping (entry.Ended number) = false
+is_keeping (entry.Used m) = true
+is_keeping (entry.Dropped m) = false
+
+-- so it is by what happened last
+abbrev pub ends_keeping : List HistoryEntry → Bool
+ends_keeping history = fold (λ before e. is_keeping e) false history
+
+-- a tile came: its metatile is kept, or it is rendered and not kept, and then the last that happened in the cabinet is the end of its render
+abbrev pub end_of_tile : State → PlaceEnd
+end_of_tile u = if ends_keeping u.history then Done else Unkept
+
+-- how the outcome of its tile, and the cabinet after it, end the place
+abbrev pub EndsBy : State → TileOutcome → PlaceEnd → Type 0
+EndsBy u (outcome.Tile tile) e = e ≡ end_of_tile u
+EndsBy u outcome.SourceFailed e = e ≡ Failed fault.Source
+EndsBy u outcome.Spent e = e ≡ Failed fault.Spent
+EndsBy u outcome.NoMemory e = e ≡ Failed fault.Memory
 
 -- from s a metatile was refreshed to its outcome, in u
 abbrev pub IsRefreshed : Bool → State → MetaKey → Chances → PlaceEnd → State → Type 0
-IsRefreshed force s m c e u = (o : TileOutcome) × (refreshed force s m c ≡ ends u o) × EndsBy o e
+IsRefreshed force s m c e u = (o : TileOutcome) × (refreshed force s m c ≡ ends u o) × EndsBy u o e
 
 -- A CUT
 
