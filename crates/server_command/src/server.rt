@@ -18,7 +18,7 @@ use std::sync::Wait;
 use std::thread::Threads;
 
 /// Serves so many links of a listener, over the cache of a disk: it reads the catalogue, the capabilities document and the recipes of
-/// composites, opens the cache, and then four workers serve each link to its end, while quotas are kept, uses are saved, and the jobs that messages submit are run, one
+/// composites, opens the cache, and then workers serve each link to its end, while quotas are kept, uses are saved, and the jobs that messages submit are run, one
 /// after the other; where requests come, a job's crew rests meanwhile. When the last link has been served all jobs that run or wait are
 /// cancelled, and it ends once each member of a crew is done with the place that it is at. Everything that it needs besides the sessions
 /// and the work at jobs is taken before the first link. Each end comes as `HasEnded` says.

@@ -21,8 +21,9 @@ use source_render::Source;
 use std::alloc::{AllocError, Global};
 use turnstile::Pass;
 
-/// How many workers serve links at a time.
-pub(crate) const WORKERS: usize = 4;
+/// How many workers serve links at a time. One that waits for a render holds no other one up, so they are many more than processors; at the
+/// most as many passes as a turnstile gives are left for them, beside the upkeep's and those of a job's crew.
+pub(crate) const WORKERS: usize = 48;
 
 /// A worker: its pass of the hall, its place at the board of jobs, its hand at the queue, and the source that it renders with.
 #[derive(Drop)]

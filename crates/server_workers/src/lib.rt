@@ -1,4 +1,4 @@
-//! The links of a listener, served by four workers over one hall, and the jobs that their messages submit, run beside them.
+//! The links of a listener, served by many workers over one hall, and the jobs that their messages submit, run beside them.
 //!
 //! Promises: at the end of `serve_hall` each link that the listener gave was served in one session, by a pass of one turnstile that had
 //! made nothing before, and from a place at one board of jobs; each job that was taken from that board was run over the hall, and at the

@@ -29,9 +29,9 @@ use std::sync::Wait;
 use std::thread::Threads;
 
 /// How many threads serve beside the one that accepts: the workers, the upkeep, who runs jobs, and those that these are made from.
-const THREADS: u32 = 8;
+const THREADS: u32 = 52;
 
-/// Serves so many links of a listener over what was made ready, and closes its hall: four workers serve each link to its end, while quotas
+/// Serves so many links of a listener over what was made ready, and closes its hall: workers serve each link to its end, 48 of them at a time, while quotas
 /// are kept, uses are saved, and the jobs that messages submit are run, one after the other; where requests come, a job's crew rests
 /// meanwhile. When the last link has been served all jobs that run or wait are cancelled, and it ends once each member is done with the
 /// place that it is at. Everything that it needs besides the sessions and the work at jobs is taken before the first link. The supplies are

@@ -16,13 +16,13 @@ use tile_requests::Tables;
 use turnstile::Pass;
 
 /// How many sources a server takes: one for each worker, and one for each member of a job's crew.
-pub const SOURCES: usize = 12;
+pub const SOURCES: usize = 56;
 
 /// How many passes of the hall a server has: one for each worker, one for the upkeep, and one for each member of a job's crew.
-pub const PASSES: u32 = 13;
+pub const PASSES: u32 = 57;
 
 /// How many places at the board of jobs a server has: one for each worker, one for who runs jobs, and one for who cancels them at the end.
-pub const BOARD_PASSES: u32 = 6;
+pub const BOARD_PASSES: u32 = 50;
 
 /// What is served, the passes of its hall, and the places at its board.
 #[derive(Drop)]

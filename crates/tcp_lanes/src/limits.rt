@@ -38,8 +38,8 @@ impl Limits {
     }
 }
 
-/// The most lanes that are out at a time: as many as there are workers.
-pub const LANES: usize = 4;
+/// The most lanes that are out at a time: as many as a server has workers.
+pub const LANES: usize = 48;
 
 /// The most connections that one turn accepts, so that other clients aren't kept waiting.
 pub const WELCOMES: usize = 64;
