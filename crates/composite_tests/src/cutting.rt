@@ -31,11 +31,11 @@ pub struct Cutting<'a, R: Wait, K: Keeper> {
 
 impl<'a, R: Wait, K: Keeper> Model for Cutting<'a, R, K> {
     ghost use Rattle.composite_tests.specs.Fit.{IsFit};
-    ghost use Rattle.std.specs.Prelude.{Option, ℕ};
+    ghost use Rattle.source_render.specs.declared.numbered.Numbered.{Numbered};
 
-    ghost Value = { Option ℕ };
+    ghost Value = { Numbered };
 
-    ghost view = { λ s. s.number };
+    ghost view = { λ s. s.numbered };
 
     ghost invariant = { λ s. IsFit s.hall.now.turnstile s.hall.now.catalogue s.pass };
 }
@@ -72,6 +72,8 @@ impl<'a, R: Wait, K: Keeper> Source for Cutting<'a, R, K> {
     ghost told = { λ _. None };
 
     ghost faults = { λ _. 0 };
+
+    ghost gave = { λ s. ⟦<Numbered as Source>⟧.gave s };
 
     fn render(
         &mut self,

@@ -7,7 +7,7 @@ use catalog::Catalogue;
 use metatile_locks::Ticket;
 use metatile_plan::Window;
 use raster_field::Raster;
-use source_render::{Failed, Source};
+use source_render::{Failed, GivenImages, Source};
 use std::alloc::Global;
 use std::io::Eprint;
 use std::net::Net;
@@ -21,6 +21,7 @@ pub struct HttpSource<R: Net + Clock + Wait + Eprint + Drop> {
     alloc: Global,
     renderer: Arc<Renderer>,
     faults: u64,
+    gave: GivenImages,
 }
 
 impl<R: Net + Clock + Wait + Eprint + Drop> HttpSource<R> {
@@ -31,6 +32,7 @@ impl<R: Net + Clock + Wait + Eprint + Drop> HttpSource<R> {
             alloc,
             renderer,
             faults: 0,
+            gave: GivenImages::new(),
         }
     }
 }
@@ -39,6 +41,8 @@ impl<R: Net + Clock + Wait + Eprint + Drop> Source for HttpSource<R> {
     ghost told = { λ _. None };
 
     ghost faults = { λ s. s.faults };
+
+    ghost gave = { λ s. s.gave };
 
     fn render(
         &mut self,
@@ -57,7 +61,10 @@ impl<R: Net + Clock + Wait + Eprint + Drop> Source for HttpSource<R> {
             into,
         );
         match answer {
-            Ok(()) => Ok(()),
+            Ok(()) => {
+                self.gave = self.gave.and(ticket, window, into);
+                Ok(())
+            }
             Err(_) => {
                 self.faults = one_more(self.faults);
                 Err(Failed)

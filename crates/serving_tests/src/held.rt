@@ -107,6 +107,8 @@ impl Source for HeldSource {
 
     ghost faults = { λ _. 0 };
 
+    ghost gave = { λ s. ⟦<Numbered as Source>⟧.gave s.numbered };
+
     fn render(
         &mut self,
         catalogue: &Catalogue,

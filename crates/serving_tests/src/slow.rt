@@ -26,6 +26,8 @@ impl<'a, R: Clock> Source for SlowSource<'a, R> {
 
     ghost faults = { λ _. 0 };
 
+    ghost gave = { λ s. ⟦<Numbered as Source>⟧.gave s.numbered };
+
     fn render(
         &mut self,
         catalogue: &Catalogue,

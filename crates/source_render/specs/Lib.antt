@@ -1,3 +1,4 @@
 pub mod Cells
+pub mod Renders
 pub mod Shown
 pub mod Told

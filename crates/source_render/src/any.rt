@@ -45,11 +45,13 @@ impl<'a, R: Files<File = File> + Drop> AnySource<'a, R> {
 }
 
 impl<'a, R: Files<File = File> + Drop> Source for AnySource<'a, R> {
-    ghost use Rattle.source_render.specs.Told.{faults_of, told_of};
+    ghost use Rattle.source_render.specs.Told.{faults_of, given_by, told_of};
 
     ghost told = { λ s. told_of s };
 
     ghost faults = { λ s. faults_of s };
+
+    ghost gave = { λ s. given_by s };
 
     fn render(
         &mut self,

@@ -1,11 +1,12 @@
 //! The source whose pictures come from a file of cells. The layout of such a file is the matter of `cell_file`.
-ghost use Rattle.std.specs.Prelude.{IfSome, None, ℕ, ◌+◌, ◌*◌, ◌^◌, ◌<◌, ◌≡◌, ◌≤◌, get_or, length};
+ghost use Rattle.std.specs.Prelude.{IfSome, None, [], ℕ, ◌+◌, ◌*◌, ◌^◌, ◌<◌, ◌≡◌, ◌≤◌, get_or, length};
 ghost use Rattle.catalog.specs.Valid.{IsLayer, IsValid};
 ghost use Rattle.matrix_geometry.specs.Limits.{IsWithinLimits};
 ghost use Rattle.raster_field.specs.Blocks.{IsMeta};
 ghost use Rattle.raster_field.specs.Rasters.{HasSize, IsWhole, IsWindowOf};
 
 use crate::cell_file::{CellGrid, read_grid, read_row};
+use crate::given::GivenImages;
 use crate::numbered::Numbered;
 use crate::painter::{BYTES, MOST, put_row};
 use crate::palette::{palette_of, put_pixel};
@@ -28,30 +29,35 @@ pub struct GridFile<'a, R: Files<File = File> + Drop> {
     /// What a render paints that finds no file; without it such a render fails.
     otherwise: Option<Numbered>,
     faults: u64,
+    gave: GivenImages,
 }
 
 impl<'a, R: Files<File = File> + Drop> GridFile<'a, R> {
     /// The source of the file at this path. A render at a moment at which the file is absent fails.
     pub fn new(rt: R, path: &'a str) -> GridFile<'a, R>
-        ensures { result.faults ≡ 0 }
+        ensures faults { result.faults ≡ 0 }
+        ensures gave { result.gave ≡ [] }
     {
         GridFile {
             rt,
             path,
             otherwise: None,
             faults: 0,
+            gave: GivenImages::new(),
         }
     }
 
     /// The same, but that a render at a moment at which the file is absent paints these pictures.
     pub fn or_numbered(rt: R, path: &'a str, otherwise: Numbered) -> GridFile<'a, R>
-        ensures { result.faults ≡ 0 }
+        ensures faults { result.faults ≡ 0 }
+        ensures gave { result.gave ≡ [] }
     {
         GridFile {
             rt,
             path,
             otherwise: Some(otherwise),
             faults: 0,
+            gave: GivenImages::new(),
         }
     }
 }
@@ -165,6 +171,7 @@ impl<'a, R: Files<File = File> + Drop> GridFile<'a, R> {
         requires size { HasSize into.old window.now }
         ensures size { HasSize into.new window.now }
         ensures faults { self.new.faults ≡ self.old.faults }
+        ensures gave { self.new.gave ≡ self.old.gave }
     {
         match File::open(&self.rt, self.path) {
             Ok(file) => paint(&file, catalogue, &ticket.meta(), window, into),
@@ -184,6 +191,8 @@ impl<'a, R: Files<File = File> + Drop> Source for GridFile<'a, R> {
 
     ghost faults = { λ s. s.faults };
 
+    ghost gave = { λ s. s.gave };
+
     fn render(
         &mut self,
         catalogue: &Catalogue,
@@ -192,7 +201,10 @@ impl<'a, R: Files<File = File> + Drop> Source for GridFile<'a, R> {
         into: &mut Raster,
     ) -> Result<(), Failed> {
         match self.paint(catalogue, ticket, window, into) {
-            Some(()) => Ok(()),
+            Some(()) => {
+                self.gave = self.gave.and(ticket, window, into);
+                Ok(())
+            }
             None => {
                 self.faults = base::one_more(self.faults);
                 Err(Failed)

@@ -10,6 +10,8 @@ impl<S: Source> Source for &mut S {
 
     ghost faults = { λ s. S.faults s.now };
 
+    ghost gave = { λ s. S.gave s.now };
+
     fn render(
         &mut self,
         catalogue: &Catalogue,

@@ -1,10 +1,12 @@
 //! The source of numbered pictures.
-ghost use Rattle.std.specs.Prelude.{IsOk, OnOk, Some, ◌≡◌};
+ghost use Rattle.std.specs.Prelude.{IsOk, OnOk, Some, [], ◌≡◌};
 ghost use Rattle.base.specs.Causes.{HasCause};
 ghost use Rattle.catalog.specs.Valid.{IsValid};
 ghost use Rattle.raster_field.specs.Blocks.{IsMeta};
 ghost use Rattle.raster_field.specs.Rasters.{HasSize, IsWindowOf, picture_on};
+ghost use Rattle.source_render.specs.Renders.{Gives};
 
+use crate::given::GivenImages;
 use crate::painter::paint;
 use crate::source::{Failed, Source};
 use catalog::Catalogue;
@@ -16,14 +18,19 @@ use raster_field::Raster;
 #[derive(Drop)]
 pub struct Numbered {
     id: u32,
+    gave: GivenImages,
 }
 
 impl Numbered {
     /// The source of this number.
     pub fn new(id: u32) -> Numbered
-        ensures { result.id ≡ id }
+        ensures id { result.id ≡ id }
+        ensures gave { result.gave ≡ [] }
     {
-        Numbered { id }
+        Numbered {
+            id,
+            gave: GivenImages::new(),
+        }
     }
 }
 
@@ -31,6 +38,8 @@ impl Source for Numbered {
     ghost told = { λ s. Some s.id };
 
     ghost faults = { λ _. 0 };
+
+    ghost gave = { λ s. s.gave };
 
     fn render(
         &mut self,
@@ -47,6 +56,7 @@ impl Source for Numbered {
         ensures size { HasSize into.new window.now }
         ensures cause { HasCause 0 0 result }
         ensures told { Some self.new.id ≡ Some self.old.id }
+        ensures gave { Gives self.old.gave self.new.gave ticket.now window.now into.new result }
         ensures never { IsOk result }
     {
         paint(
@@ -57,6 +67,7 @@ impl Source for Numbered {
             window,
             into,
         );
+        self.gave = self.gave.and(ticket, window, into);
         Ok(())
     }
 }

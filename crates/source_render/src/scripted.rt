@@ -1,10 +1,12 @@
 //! The source of numbered pictures that fails at listed calls, by which tests show what a failure leads to.
-ghost use Rattle.std.specs.Prelude.{Contains, IsErr, OnOk, Some, true, min, ◌+◌, ◌-◌, ◌^◌, ◌↔◌, ◌≡◌};
+ghost use Rattle.std.specs.Prelude.{Contains, IsErr, OnOk, Some, [], true, min, ◌+◌, ◌-◌, ◌^◌, ◌↔◌, ◌≡◌};
 ghost use Rattle.base.specs.Causes.{HasCause};
 ghost use Rattle.catalog.specs.Valid.{IsValid};
 ghost use Rattle.raster_field.specs.Blocks.{IsMeta};
 ghost use Rattle.raster_field.specs.Rasters.{HasSize, IsWindowOf, picture_on};
+ghost use Rattle.source_render.specs.Renders.{Gives};
 
+use crate::given::GivenImages;
 use crate::painter::paint;
 use crate::source::{Failed, Source};
 use catalog::Catalogue;
@@ -19,6 +21,7 @@ pub struct Scripted {
     fail: Vec<u64>,
     calls: u64,
     faults: u64,
+    gave: GivenImages,
 }
 
 impl Scripted {
@@ -28,12 +31,14 @@ impl Scripted {
         ensures fail { result.fail.items ≡ fail.items }
         ensures calls { result.calls ≡ 0 }
         ensures faults { result.faults ≡ 0 }
+        ensures gave { result.gave ≡ [] }
     {
         Scripted {
             id,
             fail,
             calls: 0,
             faults: 0,
+            gave: GivenImages::new(),
         }
     }
 
@@ -41,7 +46,7 @@ impl Scripted {
     fn next_fails(&mut self) -> bool
         ensures calls { self.new.calls ≡ min (self.old.calls + 1) (2 ^ 64 - 1) }
         ensures told { (result ≡ true) ↔ Contains self.old.fail.items self.new.calls }
-        ensures rest { (self.new.id ≡ self.old.id) × (self.new.fail.items ≡ self.old.fail.items) × (self.new.faults ≡ self.old.faults) }
+        ensures rest { (self.new.id ≡ self.old.id) × (self.new.fail.items ≡ self.old.fail.items) × (self.new.faults ≡ self.old.faults) × (self.new.gave ≡ self.old.gave) }
     {
         self.calls = self.calls.saturating_add(1);
         self.fail.as_slice().contains(&self.calls)
@@ -52,6 +57,8 @@ impl Source for Scripted {
     ghost told = { λ s. Some s.id };
 
     ghost faults = { λ s. s.faults };
+
+    ghost gave = { λ s. s.gave };
 
     fn render(
         &mut self,
@@ -68,6 +75,7 @@ impl Source for Scripted {
         ensures size { HasSize into.new window.now }
         ensures cause { HasCause self.old.faults self.new.faults result }
         ensures told { Some self.new.id ≡ Some self.old.id }
+        ensures gave { Gives self.old.gave self.new.gave ticket.now window.now into.new result }
         ensures calls { self.new.calls ≡ min (self.old.calls + 1) (2 ^ 64 - 1) }
         ensures fail { self.new.fail.items ≡ self.old.fail.items }
         ensures listed { IsErr result ↔ Contains self.old.fail.items self.new.calls }
@@ -84,6 +92,7 @@ impl Source for Scripted {
             window,
             into,
         );
+        self.gave = self.gave.and(ticket, window, into);
         Ok(())
     }
 }
