@@ -2,7 +2,8 @@
 //!
 //! Promises: each event is that of `specs/Steps.antt`; an actor that fits its request stays fitting; where the source
 //! is modelled, what an actor holds and answers is the picture of its number; the source has failed only where its count
-//! rose. Stands on cabinet, source_render and ppm_slice.
+//! rose. `paint` and `blob_of` render a blob that is cut out of an image that the source gave for the ticket, whatever the source
+//! (`specs/Given.antt`). Stands on cabinet, source_render and ppm_slice.
 #![tactic(auto)]
 
 mod actor;

@@ -2,6 +2,7 @@
 ghost use Rattle.std.specs.Prelude.{IfOk, length, ℕ, ◌≡◌};
 ghost use Rattle.catalog.specs.LookUp.{IsTile};
 ghost use Rattle.catalog.specs.Valid.{IsValid};
+ghost use Rattle.ppm_slice.specs.OfCatalogue.{blob_cut};
 ghost use Rattle.raster_field.specs.Blocks.{IsMeta, blob_size, block_of, block_text, tile_part};
 ghost use Rattle.raster_field.specs.Rasters.{HasSize, picture_on, window_in};
 ghost use Rattle.raster_field.specs.TileText.{tile_text};
@@ -24,6 +25,7 @@ pub fn blob_of(
     requires valid { IsValid catalogue.now }
     requires meta { IsMeta catalogue.now meta.now }
     requires size { HasSize raster.now (window_in catalogue.now meta.now) }
+    ensures cut { IfOk result (λ blob. blob.items ≡ blob_cut catalogue.now meta.now raster.now) }
     ensures length { IfOk result (λ blob. length blob.items ≡ blob_size catalogue.now meta.now) }
     ensures picture { IfOk result (λ blob. (number : ℕ) → raster.now ≡ picture_on catalogue.now catalogue.now.source number (window_in catalogue.now meta.now) → blob.items ≡ block_text catalogue.now number meta.now) }
 {
