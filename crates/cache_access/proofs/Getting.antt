@@ -14,6 +14,7 @@ use Rattle.catalog.specs.Valid.{IsValid}
 use Rattle.matrix_geometry.specs.declared.address.Address.{Address}
 use Rattle.metatile_locks.specs.Tickets.{Ticketed}
 use Rattle.raster_field.specs.TileText.{tile_text}
+use Rattle.source_render.specs.Renders.{GivenImage}
 use Rattle.truncation_list.specs.declared.book.Book.{Book}
 use Rattle.truncation_list.specs.declared.book.FrontedBook.{FrontedBook}
 use Rattle.truncation_list.specs.Books.{AnswersForFronted}
@@ -22,9 +23,11 @@ use Rattle.cache_access.specs.declared.fault.GetFault.{GetFault}
 use Rattle.cache_access.specs.declared.fault.GetFault.TheVariants as fault
 use Rattle.cache_access.specs.Gets.{Gets, HasAbandoned, HasGot, IsNewerThanBook}
 use Rattle.cache_access.specs.Made.{GivesBack, HandsIn, Makes}
+use Rattle.cache_access.specs.Sourced.{AreFromSource, IsFromSource}
 use Rattle.cache_access.specs.Turned.{AreTurns}
-use Rattle.cache_access.specs.Waits.{HasWaited, IsAsk}
+use Rattle.cache_access.specs.Waits.{HasWaited, IsAsk, IsWaiting}
 use Rattle.cache_access.proofs.Asked.{answered_by}
+use Rattle.cache_access.proofs.Sourcing.{busy_asks, by_abandon, by_ask, by_finish, with_one, with_two}
 use Rattle.cache_access.proofs.Turning.{turn_among}
 
 -- NEWER than what the book answers for that the ask found, and than what had been seen before
@@ -63,10 +66,22 @@ module _ (c : Catalogue) (a : Address) (valid : IsValid c) (tile : IsTile c a) w
     ticket_facts : (t : Ticketed) → IsAsk a (asked.Ticket t) ask → AskFacts seen ask t.number
     ticket_facts t is = let x = answer_of (asked.Ticket t) is in facts_at t.number (all_covering c (book_in ask.note.before) a t.number x.above) x.fresh
 
-  module _ {C : Type 0} (leads : C → C → List (Made Note) → Type 0) (seen : C → FrontedBook) (Sound : Type 0) (p : C) (turns_of : (q : C) (ms : List (Made Note)) → leads p q ms → AreTurns c false (seen p) ms (seen q)) where
+  module _ {C : Type 0} (leads : C → C → List (Made Note) → Type 0) (seen : C → FrontedBook) (gave : List GivenImage) (Sound : Type 0) (p : C) (turns_of : (q : C) (ms : List (Made Note)) → leads p q ms → AreTurns c false (seen p) ms (seen q)) where
+    -- NO TILE
+    pub got_no_memory : (q : C) → IsWaiting leads a p q → Gets leads c gave Sound a (seen p) p q (Err fault.OutOfMemory)
+    got_no_memory q h = record { gained = h.busy; gains = h.gains; from_source = busy_asks c gave a h.busy h.waited; got = inl h.waited }
+
+    pub got_spent : (q : C) → HasWaited leads a p q asked.Spent → Gets leads c gave Sound a (seen p) p q (Err fault.Spent)
+    got_spent q h = record {
+      gained = h.busy ++ h.ask ∷ [];
+      gains = h.gains;
+      from_source = with_one c gave h.busy h.ask (busy_asks c gave a h.busy h.waited) (by_ask c gave a asked.Spent h.ask h.answer);
+      got = record { busy = h.busy; ask = h.ask; all = refl; waited = h.waited; answer = h.answer };
+    }
+
     -- A HIT
     pub got_kept : (q : C) (k : ℕ) (bytes : List ℕ) → HasWaited leads a p q (asked.Hit k bytes) → (Sound → bytes ≡ tile_text c k a)
-        → Gets leads c Sound a (seen p) p q (Ok (record { hit = true; number = k; bytes = bytes }))
+        → Gets leads c gave Sound a (seen p) p q (Ok (record { hit = true; number = k; bytes = bytes }))
     got_kept q k bytes h truth =
         let facts = hit_facts (seen p) (seen q) h.busy h.ask [] (turns_of q (h.busy ++ h.ask ∷ []) h.gains) k bytes h.answer in
         let tile_is : Tile = record { hit = true; number = k; bytes = bytes } in
@@ -82,23 +97,27 @@ module _ (c : Catalogue) (a : Address) (valid : IsValid c) (tile : IsTile c a) w
           fresh = facts.fresh;
           truth = truth;
         } in
-        record { gained = h.busy ++ h.ask ∷ []; gains = h.gains; got = all }
+        record { gained = h.busy ++ h.ask ∷ []; gains = h.gains; from_source = with_one c gave h.busy h.ask (busy_asks c gave a h.busy h.waited) (by_ask c gave a (asked.Hit k bytes) h.ask h.answer); got = all }
 
     -- A RENDER
     module _ (True : Type 0) (sure : Sound → True) (q r : C) (on : (xs ys : List (Made Note)) → leads p q xs → leads q r ys → leads p r (xs ++ ys)) (t : Ticketed) (h : HasWaited leads a p q (asked.Ticket t)) where
       whole : (end : Made Note) → leads q r (end ∷ []) → leads p r (h.busy ++ h.ask ∷ end ∷ [])
       whole end gains = subst (λ (ms : List (Made Note)). leads p r ms) (append_assoc h.busy (h.ask ∷ []) (end ∷ [])) (on (h.busy ++ h.ask ∷ []) (end ∷ []) h.gains gains)
 
+      sourced : (end : Made Note) → IsFromSource c gave end.note.command → AreFromSource c gave (h.busy ++ h.ask ∷ end ∷ [])
+      sourced end from = with_two c gave h.busy h.ask end (busy_asks c gave a h.busy h.waited) (by_ask c gave a (asked.Ticket t) h.ask h.answer) from
+
       abandoned : (back : GivesBack leads t q r) → HasAbandoned a (h.busy ++ h.ask ∷ back.end ∷ [])
       abandoned back = record { busy = h.busy; ask = h.ask; end = back.end; all = refl; waited = h.waited; ticket = t; answer = h.answer; ended = back.ended }
 
-      handed : (got : Tile) → HandsIn leads c True a t q r got → Gets leads c Sound a (seen p) p r (Ok got)
+      handed : (got : Tile) → HandsIn leads c gave True a t q r got → Gets leads c gave Sound a (seen p) p r (Ok got)
       handed got made =
           let gains = whole made.end made.gains in
           let facts = ticket_facts (seen p) (seen r) h.busy h.ask (made.end ∷ []) (turns_of r (h.busy ++ h.ask ∷ made.end ∷ []) gains) t h.answer in
           record {
             gained = h.busy ++ h.ask ∷ made.end ∷ [];
             gains = gains;
+            from_source = sourced made.end (by_finish c gave t made.blob made.end made.handed made.cut);
             got = record {
               busy = h.busy;
               ask = h.ask;
@@ -113,8 +132,8 @@ module _ (c : Catalogue) (a : Address) (valid : IsValid c) (tile : IsTile c a) w
             };
           }
 
-      pub got_made : (result : Result Tile GetFault) → Makes leads c True a t q r result → Gets leads c Sound a (seen p) p r result
+      pub got_made : (result : Result Tile GetFault) → Makes leads c gave True a t q r result → Gets leads c gave Sound a (seen p) p r result
       got_made (Ok got) made = handed got made
-      got_made (Err fault.SourceFault) back = record { gained = h.busy ++ h.ask ∷ back.end ∷ []; gains = whole back.end back.gains; got = abandoned back }
+      got_made (Err fault.SourceFault) back = record { gained = h.busy ++ h.ask ∷ back.end ∷ []; gains = whole back.end back.gains; from_source = sourced back.end (by_abandon c gave t back.end back.ended); got = abandoned back }
       got_made (Err fault.Spent) none = absurd none
-      got_made (Err fault.OutOfMemory) back = record { gained = h.busy ++ h.ask ∷ back.end ∷ []; gains = whole back.end back.gains; got = inr (abandoned back) }
+      got_made (Err fault.OutOfMemory) back = record { gained = h.busy ++ h.ask ∷ back.end ∷ []; gains = whole back.end back.gains; from_source = sourced back.end (by_abandon c gave t back.end back.ended); got = inr (abandoned back) }

@@ -2,6 +2,7 @@ pub mod Resting
 pub mod Acting
 pub mod Turning
 pub mod Asked
+pub mod Sourcing
 pub mod Getting
 pub mod Refreshing
 pub mod Going

@@ -1,5 +1,5 @@
 -- What a refresh comes to.
-use Rattle.std.proofs.Common.{ℕ, ◌≡◌, Bool, true, false, List, [], ◌∷◌, ◌++◌, Result, Ok, Err, Some, inr, refl, sym, ap, subst, ◌∙◌, append_assoc}
+use Rattle.std.proofs.Common.{ℕ, ◌≡◌, Bool, true, false, List, [], ◌∷◌, ◌++◌, Result, Ok, Err, Some, inl, inr, refl, sym, ap, subst, ◌∙◌, append_assoc}
 use Rattle.cabinet.specs.declared.kept.Kept.{Kept}
 use Rattle.cabinet.specs.declared.replies.Asked.TheVariants as asked
 use Rattle.cabinet.specs.declared.replies.Finished.{Finished}
@@ -21,6 +21,7 @@ use Rattle.metatile_plan.specs.declared.metatile.MetaKey.{MetaKey}
 use Rattle.raster_field.specs.Blocks.{IsMeta, blob_size, block_of, block_text, factors_at, first_tile}
 use Rattle.raster_field.proofs.Firsts.{first_in}
 use Rattle.raster_field.proofs.Metas.{its_plan, parts}
+use Rattle.source_render.specs.Renders.{GivenImage}
 use Rattle.truncation_list.specs.declared.book.FrontedBook.{FrontedBook}
 use Rattle.truncation_list.specs.Books.{AnswersForFronted}
 use Rattle.turnstile.specs.declared.view.Made.{Made}
@@ -31,11 +32,13 @@ use Rattle.cache_access.specs.declared.refreshed.Refreshed.TheVariants.{AlreadyK
 use Rattle.cache_access.specs.declared.requesting.Requested.TheVariants as requested
 use Rattle.cache_access.specs.Made.{GivesBack, HandsInBlob, Remakes}
 use Rattle.cache_access.specs.Refreshes.{GivesTicket, HasGivenUp, IsNewerOnAll, IsRendered, Refreshes}
-use Rattle.cache_access.specs.Requested.{HasAwaited}
+use Rattle.cache_access.specs.Requested.{HasAwaited, IsAwaiting}
+use Rattle.cache_access.specs.Sourced.{AreFromSource, IsFromSource}
 use Rattle.cache_access.specs.Turned.{AreTurns}
 use Rattle.cache_access.specs.Waits.{IsAsk}
 use Rattle.cache_access.proofs.Asked.{answered_by, forced_by}
 use Rattle.cache_access.proofs.Getting.{newer_by}
+use Rattle.cache_access.proofs.Sourcing.{busy_requests, by_abandon, by_ask, by_finish, by_spent, by_ticket, with_one, with_two}
 use Rattle.cache_access.proofs.Turning.{turn_among}
 
 module _ (c : Catalogue) (m : MetaKey) (valid : IsValid c) (meta : IsMeta c m) where
@@ -79,15 +82,28 @@ module _ (c : Catalogue) (m : MetaKey) (valid : IsValid c) (meta : IsMeta c m) w
 
   -- A REFRESH
 
-  module _ {C : Type 0} (leads : C → C → List (Made Note) → Type 0) (seen : C → FrontedBook) (Sound : Type 0) (p : C) (turns_of : (q : C) (ms : List (Made Note)) → leads p q ms → AreTurns c false (seen p) ms (seen q)) (is_forced : Bool) where
+  module _ {C : Type 0} (leads : C → C → List (Made Note) → Type 0) (seen : C → FrontedBook) (gave : List GivenImage) (Sound : Type 0) (p : C) (turns_of : (q : C) (ms : List (Made Note)) → leads p q ms → AreTurns c false (seen p) ms (seen q)) (is_forced : Bool) where
+    -- none
+    pub refreshed_no_memory : (q : C) → IsAwaiting leads c m is_forced p q → Refreshes leads c gave Sound m is_forced (seen p) p q (Err fault.OutOfMemory)
+    refreshed_no_memory q h = record { gained = h.busy; gains = h.gains; from_source = busy_requests c gave m is_forced h.busy h.waited; came_to = inl h.waited }
+
+    pub refreshed_spent : (q : C) → HasAwaited leads c m is_forced p q requested.Spent → Refreshes leads c gave Sound m is_forced (seen p) p q (Err fault.Spent)
+    refreshed_spent q h = record {
+      gained = h.busy ++ h.ask ∷ [];
+      gains = h.gains;
+      from_source = with_one c gave h.busy h.ask (busy_requests c gave m is_forced h.busy h.waited) (by_spent c gave m is_forced h.ask h.answer);
+      came_to = record { busy = h.busy; ask = h.ask; all = refl; waited = h.waited; answer = h.answer };
+    }
+
     -- what is kept stays
-    pub refreshed_kept : (q : C) (k : ℕ) → HasAwaited leads c m is_forced p q (requested.Kept k) → Refreshes leads c Sound m is_forced (seen p) p q (Ok (AlreadyKept k))
+    pub refreshed_kept : (q : C) (k : ℕ) → HasAwaited leads c m is_forced p q (requested.Kept k) → Refreshes leads c gave Sound m is_forced (seen p) p q (Ok (AlreadyKept k))
     refreshed_kept q k h =
         let turn = turn_among c false (seen p) (seen q) h.busy h.ask [] (turns_of q (h.busy ++ h.ask ∷ []) h.gains) in
         let newer = above_is_newer (seen p) h.ask k turn.2 turn.0 (hit_above h.ask k h.answer.1.0 h.answer.1.1 turn.1) in
         record {
           gained = h.busy ++ h.ask ∷ [];
           gains = h.gains;
+          from_source = with_one c gave h.busy h.ask (busy_requests c gave m is_forced h.busy h.waited) (by_ask c gave (first_tile c m) (asked.Hit k h.answer.1.0) h.ask h.answer.1.1);
           came_to = record {
             busy = h.busy;
             ask = h.ask;
@@ -109,10 +125,13 @@ module _ (c : Catalogue) (m : MetaKey) (valid : IsValid c) (meta : IsMeta c m) w
         whole : (end : Made Note) → leads q r (end ∷ []) → leads p r (h.busy ++ h.ask ∷ end ∷ [])
         whole end gains = subst (λ (ms : List (Made Note)). leads p r ms) (append_assoc h.busy (h.ask ∷ []) (end ∷ [])) (on (h.busy ++ h.ask ∷ []) (end ∷ []) h.gains gains)
 
+        sourced : (end : Made Note) → IsFromSource c gave end.note.command → AreFromSource c gave (h.busy ++ h.ask ∷ end ∷ [])
+        sourced end from = with_two c gave h.busy h.ask end (busy_requests c gave m is_forced h.busy h.waited) (by_ticket c gave m is_forced t h.ask h.answer) from
+
         given_up : (back : GivesBack leads t q r) → HasGivenUp c m is_forced (h.busy ++ h.ask ∷ back.end ∷ [])
         given_up back = record { busy = h.busy; ask = h.ask; end = back.end; all = refl; waited = h.waited; ticket = t; answer = h.answer; ended = back.ended }
 
-        rendered : (k : ℕ) (f : Finished) (made : HandsInBlob leads c True t q r k f) → IsRendered c Sound m is_forced h.ask (made.gains.turn ∷ []) k f
+        rendered : (k : ℕ) (f : Finished) (made : HandsInBlob leads c gave True t q r k f) → IsRendered c Sound m is_forced h.ask (made.gains.turn ∷ []) k f
         rendered k f made = record {
           ticket = t;
           number = made.number;
@@ -126,17 +145,18 @@ module _ (c : Catalogue) (m : MetaKey) (valid : IsValid c) (meta : IsMeta c m) w
           one = refl;
         }
 
-        newer_on_all : (k : ℕ) (f : Finished) (made : HandsInBlob leads c True t q r k f) → IsNewerOnAll c m k (seen p) × IsNewerOnAll c m k h.ask.found
+        newer_on_all : (k : ℕ) (f : Finished) (made : HandsInBlob leads c gave True t q r k f) → IsNewerOnAll c m k (seen p) × IsNewerOnAll c m k h.ask.found
         newer_on_all k f made =
             let turn = turn_among c false (seen p) (seen q) h.busy h.ask [] (turns_of q (h.busy ++ h.ask ∷ []) h.gains) in
             let above = (ticket_above is_forced h.ask t h.answer turn.1).0 in
             above_is_newer (seen p) h.ask k turn.2 turn.0 (λ a tile of. all_covering c (book_in h.ask.note.before) a k (subst (λ (n : ℕ). IsAboveAll (book_in h.ask.note.before) n) (sym made.number) above))
 
-        pub refreshed_made : (result : Result Refreshed GetFault) → Remakes leads c True t q r result → Refreshes leads c Sound m is_forced (seen p) p r result
+        pub refreshed_made : (result : Result Refreshed GetFault) → Remakes leads c gave True t q r result → Refreshes leads c gave Sound m is_forced (seen p) p r result
         refreshed_made (Ok (AlreadyKept k)) none = absurd none
         refreshed_made (Ok (Remade k)) made = record {
           gained = h.busy ++ h.ask ∷ made.gains.turn ∷ [];
           gains = whole made.gains.turn made.gains.gains;
+          from_source = sourced made.gains.turn (by_finish c gave t made.blob made.gains.turn made.gains.of.command made.cut);
           came_to = record {
             busy = h.busy;
             ask = h.ask;
@@ -151,6 +171,7 @@ module _ (c : Catalogue) (m : MetaKey) (valid : IsValid c) (meta : IsMeta c m) w
         refreshed_made (Ok (Unkept k)) (f, unkept, made) = record {
           gained = h.busy ++ h.ask ∷ made.gains.turn ∷ [];
           gains = whole made.gains.turn made.gains.gains;
+          from_source = sourced made.gains.turn (by_finish c gave t made.blob made.gains.turn made.gains.of.command made.cut);
           came_to = record {
             busy = h.busy;
             ask = h.ask;
@@ -162,6 +183,6 @@ module _ (c : Catalogue) (m : MetaKey) (valid : IsValid c) (meta : IsMeta c m) w
             newer_than_found = (newer_on_all k f made).1;
           };
         }
-        refreshed_made (Err fault.SourceFault) back = record { gained = h.busy ++ h.ask ∷ back.end ∷ []; gains = whole back.end back.gains; came_to = given_up back }
+        refreshed_made (Err fault.SourceFault) back = record { gained = h.busy ++ h.ask ∷ back.end ∷ []; gains = whole back.end back.gains; from_source = sourced back.end (by_abandon c gave t back.end back.ended); came_to = given_up back }
         refreshed_made (Err fault.Spent) none = absurd none
-        refreshed_made (Err fault.OutOfMemory) back = record { gained = h.busy ++ h.ask ∷ back.end ∷ []; gains = whole back.end back.gains; came_to = inr (given_up back) }
+        refreshed_made (Err fault.OutOfMemory) back = record { gained = h.busy ++ h.ask ∷ back.end ∷ []; gains = whole back.end back.gains; from_source = sourced back.end (by_abandon c gave t back.end back.ended); came_to = inr (given_up back) }

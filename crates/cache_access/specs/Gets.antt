@@ -11,12 +11,14 @@ use Rattle.matrix_geometry.specs.declared.address.Address.{Address}
 use Rattle.metatile_locks.specs.Tickets.{Ticketed}
 use Rattle.raster_field.specs.Blocks.{blob_size, tile_part}
 use Rattle.raster_field.specs.TileText.{tile_text}
+use Rattle.source_render.specs.Renders.{GivenImage}
 use Rattle.truncation_list.specs.declared.book.Cut.{Cut}
 use Rattle.truncation_list.specs.declared.book.FrontedBook.{FrontedBook}
 use Rattle.truncation_list.specs.Books.{AnswersFor}
 use Rattle.turnstile.specs.declared.view.Made.{Made}
 use Rattle.cache_access.specs.declared.fault.GetFault.{GetFault}
 use Rattle.cache_access.specs.declared.fault.GetFault.TheVariants.{SourceFault, Spent, OutOfMemory}
+use Rattle.cache_access.specs.Sourced.{AreFromSource}
 use Rattle.cache_access.specs.Waits.{AreBusyAsks, IsAsk}
 
 -- a finish of the ticket's render with this blob, whatever it was answered
@@ -91,9 +93,10 @@ IsGot c Sound a seen gained (Err SourceFault) = HasAbandoned a gained
 IsGot c Sound a seen gained (Err Spent) = HasMetSpent a gained
 IsGot c Sound a seen gained (Err OutOfMemory) = AreBusyAsks a gained ⊎ HasAbandoned a gained
 
--- THE WHOLE: the turns that a get made, and what it came to
+-- THE WHOLE: the turns that a get made, and what it came to; what they handed in is cut out of what the source has given
 module _ {C : Type 0} (leads : C → C → List (Made Note) → Type 0) where
-  pub record Gets (c : Catalogue) (Sound : Type 0) (a : Address) (seen : FrontedBook) (before after : C) (result : Result Tile GetFault) : Type 0 where
+  pub record Gets (c : Catalogue) (gave : List GivenImage) (Sound : Type 0) (a : Address) (seen : FrontedBook) (before after : C) (result : Result Tile GetFault) : Type 0 where
     pub gained : List (Made Note)
     pub gains : leads before after gained
+    pub from_source : AreFromSource c gave gained
     pub got : IsGot c Sound a seen gained result

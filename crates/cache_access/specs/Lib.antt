@@ -1,5 +1,6 @@
 pub mod Turned
 pub mod Waits
+pub mod Sourced
 pub mod Gets
 pub mod Alone
 pub mod Stepping

@@ -14,6 +14,7 @@ use Rattle.matrix_geometry.specs.declared.address.Address.{Address}
 use Rattle.metatile_locks.specs.Tickets.{Ticketed}
 use Rattle.metatile_plan.specs.declared.metatile.MetaKey.{MetaKey}
 use Rattle.raster_field.specs.Blocks.{blob_size, block_of, block_text, first_tile}
+use Rattle.source_render.specs.Renders.{GivenImage}
 use Rattle.truncation_list.specs.declared.book.FrontedBook.{FrontedBook}
 use Rattle.turnstile.specs.declared.view.Made.{Made}
 use Rattle.cache_access.specs.declared.fault.GetFault.{GetFault}
@@ -21,6 +22,7 @@ use Rattle.cache_access.specs.declared.fault.GetFault.TheVariants.{SourceFault, 
 use Rattle.cache_access.specs.declared.refreshed.Refreshed.{Refreshed}
 use Rattle.cache_access.specs.declared.refreshed.Refreshed.TheVariants.{AlreadyKept, Made as Remade, Unkept}
 use Rattle.cache_access.specs.Gets.{IsAbandon, IsNewerThanBook}
+use Rattle.cache_access.specs.Sourced.{AreFromSource}
 use Rattle.cache_access.specs.Turned.{IsOf}
 use Rattle.cache_access.specs.Waits.{AreBusyAsks, AreBusyForces, IsAsk, IsForce}
 
@@ -126,9 +128,10 @@ CameTo c Sound m force seen gained (Err SourceFault) = HasGivenUp c m force gain
 CameTo c Sound m force seen gained (Err Spent) = HasMetNoNumber c m force gained
 CameTo c Sound m force seen gained (Err OutOfMemory) = AreBusyRequests c m force gained ⊎ HasGivenUp c m force gained
 
--- THE WHOLE: the turns that a refresh made, and what it came to
+-- THE WHOLE: the turns that a refresh made, and what it came to; what they handed in is cut out of what the source has given
 module _ {C : Type 0} (leads : C → C → List (Made Note) → Type 0) where
-  pub record Refreshes (c : Catalogue) (Sound : Type 0) (m : MetaKey) (force : Bool) (seen : FrontedBook) (before after : C) (result : Result Refreshed GetFault) : Type 0 where
+  pub record Refreshes (c : Catalogue) (gave : List GivenImage) (Sound : Type 0) (m : MetaKey) (force : Bool) (seen : FrontedBook) (before after : C) (result : Result Refreshed GetFault) : Type 0 where
     pub gained : List (Made Note)
     pub gains : leads before after gained
+    pub from_source : AreFromSource c gave gained
     pub came_to : CameTo c Sound m force seen gained result

@@ -5,6 +5,7 @@ ghost use Rattle.cache_access.specs.Gets.{Gets};
 ghost use Rattle.cache_access.specs.Turned.{Goes};
 ghost use Rattle.catalog.specs.LookUp.{IsTile};
 ghost use Rattle.catalog.specs.Valid.{IsValid};
+ghost use Rattle.source_render.specs.Renders.{StaysGiven};
 
 use crate::access::Access;
 use crate::fault::GetFault;
@@ -33,13 +34,14 @@ pub fn get<A: Access, S: Source>(
     requires valid { IsValid (A.catalogue access.now cache.old) }
     requires tile { IsTile (A.catalogue access.now cache.old) address.now }
     requires source { A.owes access.now cache.old → S.told source.old ≡ Some (A.catalogue access.now cache.old).source }
-    ensures gets { Gets (A.gains access.now) (A.catalogue access.now cache.old) (A.sound access.now cache.old × (S.told source.old ≡ Some (A.catalogue access.now cache.old).source)) address.now (A.seen access.now cache.old) cache.old cache.new result }
+    ensures gets { Gets (A.gains access.now) (A.catalogue access.now cache.old) (S.gave source.new) (A.sound access.now cache.old × (S.told source.old ≡ Some (A.catalogue access.now cache.old).source)) address.now (A.seen access.now cache.old) cache.old cache.new result }
     ensures goes { Goes (A.catalogue access.now) (A.reaches access.now) (A.owes access.now) (A.lasts access.now) cache.old cache.new }
     ensures still { S.told source.old ≡ Some (A.catalogue access.now cache.old).source → A.sound access.now cache.old → A.sound access.now cache.new }
     ensures rests { A.rests access.now cache.new }
     ensures later { S.faults source.old ≤ S.faults source.new }
     ensures cause { IfErr result (λ e. e ≡ GetFault.SourceFault → Rose (S.faults source.old) (S.faults source.new)) }
     ensures told { S.told source.new ≡ S.told source.old }
+    ensures grows { StaysGiven (S.gave source.old) (S.gave source.new) }
 {
     laws_of_numbers();
     match access.ask(alloc, cache, address) {

@@ -6,7 +6,8 @@
 //! Promises (`specs/Gets.antt`, `specs/Refreshes.antt`, `specs/KeepsUp.antt`): each call says which turns were made, in order; a tile is
 //! newer than each truncation that covers it and for which the book that was seen before answers, or the one that its ask found, and so is
 //! a metatile that is refreshed, for each of its tiles; it is the encoded tile of its number, if the cache is sound and the source the
-//! catalogue's; upkeep makes turns of its one command until nothing is left to do, the disk fails, or as many were made as may be.
+//! catalogue's; of whatever source, each blob that is handed in is cut out of an image that it gave for the ticket
+//! (`specs/Sourced.antt`); upkeep makes turns of its one command until nothing is left to do, the disk fails, or as many were made as may be.
 //! Stands on cabinet_chest, turnstile and cache_core.
 #![tactic(auto)]
 

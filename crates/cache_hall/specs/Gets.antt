@@ -6,6 +6,7 @@ use Rattle.cache_access.specs.Gets.{Gets as GetsBy, HasGot as HasGotIf, IsGot as
 use Rattle.cache_core.specs.declared.outcome.Tile.{Tile}
 use Rattle.catalog.specs.declared.catalogue.Catalogue.{Catalogue}
 use Rattle.matrix_geometry.specs.declared.address.Address.{Address}
+use Rattle.source_render.specs.Renders.{GivenImage}
 use Rattle.truncation_list.specs.declared.book.FrontedBook.{FrontedBook}
 use Rattle.turnstile.specs.declared.view.Made.{Made}
 use Rattle.cache_hall.specs.Turned.{GainsTurns, HallPass}
@@ -19,6 +20,6 @@ HasGot c told a seen gained tile = HasGotIf c (told ≡ true) a seen gained tile
 abbrev pub IsGot : Catalogue → Bool → Address → FrontedBook → List (Made Note) → Result Tile GetFault → Type 0
 IsGot c told a seen gained result = IsGotIf c (told ≡ true) a seen gained result
 
--- THE WHOLE: what a get did to its pass, and came to
-abbrev pub Gets : Catalogue → Address → HallPass → HallPass → Result Tile GetFault → Type 0
-Gets c a before after result = GetsBy (GainsTurns c) c (before.told ≡ true) a before.book before after result
+-- THE WHOLE: what a get did to its pass, and came to, by a source that has given these images
+abbrev pub Gets : Catalogue → List GivenImage → Address → HallPass → HallPass → Result Tile GetFault → Type 0
+Gets c gave a before after result = GetsBy (GainsTurns c) c gave (before.told ≡ true) a before.book before after result

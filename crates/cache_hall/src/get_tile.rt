@@ -5,6 +5,7 @@ ghost use Rattle.cache_hall.specs.Gets.{Gets};
 ghost use Rattle.cache_hall.specs.Turned.{IsPassOf};
 ghost use Rattle.catalog.specs.LookUp.{IsTile};
 ghost use Rattle.catalog.specs.Valid.{IsValid};
+ghost use Rattle.source_render.specs.Renders.{StaysGiven};
 
 use crate::hall::Hall;
 use crate::shared::Shared;
@@ -35,11 +36,12 @@ pub fn get<R: Wait, K: Keeper, S: Source>(
     requires valid { IsValid hall.now.catalogue }
     requires tile { IsTile hall.now.catalogue address.now }
     requires source { pass.old.told ≡ true → S.told source.old ≡ Some hall.now.catalogue.source }
-    ensures gets { Gets hall.now.catalogue address.now pass.old pass.new result }
+    ensures gets { Gets hall.now.catalogue (S.gave source.new) address.now pass.old pass.new result }
     ensures of { IsPassOf hall.now.turnstile.table hall.now.catalogue pass.new }
     ensures later { S.faults source.old ≤ S.faults source.new }
     ensures cause { IfErr result (λ e. e ≡ GetFault.SourceFault → Rose (S.faults source.old) (S.faults source.new)) }
     ensures told { S.told source.new ≡ S.told source.old }
+    ensures grows { StaysGiven (S.gave source.old) (S.gave source.new) }
 {
     cache_access::get(&Shared { rt, hall }, alloc, pass, source, address)
 }

@@ -5,7 +5,8 @@
 //! `specs/Refreshes.antt`): each call says which turns its pass made, in order, each of them the row of a command of the one cabinet,
 //! whose book answers for all that the pass had seen. A tile is newer than each truncation that covers it and for which the pass's book
 //! answered before the call or the book answers that its last ask found, and so is a metatile that is refreshed, for each of its tiles;
-//! if the hall is told to be sound, it is the encoded tile of its number.
+//! if the hall is told to be sound, it is the encoded tile of its number. Each blob that a pass hands in is cut out of an image that its
+//! source gave for the ticket.
 //! Stands on cache_access, cabinet_chest, turnstile and base.
 #![tactic(auto)]
 
