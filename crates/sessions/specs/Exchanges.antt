@@ -1,19 +1,20 @@
 -- The messages of a session, each with what it came to, and their responses.
 use Rattle.std.specs.Prelude.{ℕ, ◌≡◌, ◌+◌, Bool, List, [], ◌∷◌, map}
 use Rattle.http_wire.specs.declared.message.Message.{Message}
+use Rattle.source_render.specs.Renders.{Renders}
 use Rattle.tile_requests.specs.declared.outcome.Outcome.{Outcome}
 use Rattle.tile_requests.specs.Requests.{answered_at}
 use Rattle.tile_requests.specs.Response.{response}
 use Rattle.tile_requests.specs.Routes.{spelling_of}
 
--- how a server stands between two messages: what it answers from, where jobs are submitted, and how often the source has failed
+-- how a server stands between two messages: what it answers from, where jobs are submitted, and what the source has done
 pub record ServerStanding (Cache Jobs : Type 0) : Type 0 where
   pub cache : Cache
   pub jobs : Jobs
-  pub failures : ℕ
+  pub renders : Renders
 
-abbrev pub standing : {Cache Jobs : Type 0} → Cache → Jobs → ℕ → ServerStanding Cache Jobs
-standing cache jobs failures = record { cache = cache; jobs = jobs; failures = failures }
+abbrev pub standing : {Cache Jobs : Type 0} → Cache → Jobs → Renders → ServerStanding Cache Jobs
+standing cache jobs so_far = record { cache = cache; jobs = jobs; renders = so_far }
 
 -- a message, the outcome that it came to, whether memory was left for the text of its response, and how the server stood before it
 -- and after it

@@ -3,6 +3,7 @@ ghost use Rattle.std.specs.Prelude.{◌≡◌, ℕ, List};
 ghost use Rattle.std.specs.declared.option.Option.{Option};
 ghost use Rattle.http_wire.specs.declared.message.Message.{Message};
 ghost use Rattle.sessions.specs.Exchanges.{ServerStanding, standing};
+ghost use Rattle.source_render.specs.Renders.{renders};
 ghost use Rattle.tile_requests.specs.declared.outcome.Outcome.{Outcome};
 
 use http_wire::Message;
@@ -42,7 +43,7 @@ pub trait MessageServer {
         message: &Message,
     ) -> Outcome
         requires ready { ready self.now cache.old jobs.old (S.told source.old) }
-        ensures serves { serves self.now (S.told source.old) message.now result (standing cache.old jobs.old (S.faults source.old)) (standing cache.new jobs.new (S.faults source.new)) }
+        ensures serves { serves self.now (S.told source.old) message.now result (standing cache.old jobs.old (renders (S.faults source.old) (S.gave source.old))) (standing cache.new jobs.new (renders (S.faults source.new) (S.gave source.new))) }
         ensures ready { ready self.now cache.new jobs.new (S.told source.new) }
         ensures document { document self.now cache.new ≡ document self.now cache.old }
         ensures told { S.told source.new ≡ S.told source.old };

@@ -6,6 +6,7 @@ ghost use Rattle.sessions.specs.Exchanges.{standing};
 ghost use Rattle.sessions.specs.Outside.{InputChange, OutputChange, counts};
 ghost use Rattle.sessions.specs.Responses.{MayTell};
 ghost use Rattle.sessions.specs.Sessions.{IsHeld};
+ghost use Rattle.source_render.specs.Renders.{renders};
 ghost use Rattle.tile_requests.specs.Response.{closes, response};
 ghost use Rattle.tile_requests.specs.Routes.{spelling_of};
 ghost use Rattle.tile_requests.specs.Sent.{AppendsFront};
@@ -60,7 +61,7 @@ fn respond<M: MessageServer, S: Source, L: Link>(
     place: u64,
 ) -> Result<(), Sent>
     requires ready { M.ready server.now cache.old jobs.old (S.told source.old) }
-    ensures responds { (o : Outcome) × M.serves server.now (S.told source.old) message.now o (standing cache.old jobs.old (S.faults source.old)) (standing cache.new jobs.new (S.faults source.new))
+    ensures responds { (o : Outcome) × M.serves server.now (S.told source.old) message.now o (standing cache.old jobs.old (renders (S.faults source.old) (S.gave source.old))) (standing cache.new jobs.new (renders (S.faults source.new) (S.gave source.new)))
         × OnOk result (MayTell (spelling_of message.now) o (λ x. Appends (L.taken link.old) (L.taken link.new) (response (M.document server.now cache.old) message.now place x)))
         × OnErr result (MayTell (spelling_of message.now) o (λ x. AppendsFront (L.taken link.old) (L.taken link.new) (response (M.document server.now cache.old) message.now place x))) }
     ensures ready { M.ready server.now cache.new jobs.new (S.told source.new) }
@@ -100,7 +101,7 @@ pub fn hold_session<M: MessageServer, S: Source, L: Link>(
     ensures held { IsHeld (M.serves server.now (S.told source.old))
         (record { reads = counts (L.ByteSource.faults link.old) (L.ByteSource.faults link.new); from = L.left link.old; to = L.left link.new })
         (record { writes = counts (L.ByteSink.faults link.old) (L.ByteSink.faults link.new); from = L.taken link.old; to = L.taken link.new })
-        (M.document server.now cache.old) (standing cache.old jobs.old (S.faults source.old)) (standing cache.new jobs.new (S.faults source.new)) result }
+        (M.document server.now cache.old) (standing cache.old jobs.old (renders (S.faults source.old) (S.gave source.old))) (standing cache.new jobs.new (renders (S.faults source.new) (S.gave source.new))) result }
     ensures ready { M.ready server.now cache.new jobs.new (S.told source.new) }
     ensures document { M.document server.now cache.new ≡ M.document server.now cache.old }
     ensures told { S.told source.new ≡ S.told source.old }

@@ -9,3 +9,4 @@ pub mod LoneRuns
 pub mod LoneRefreshes
 pub mod Counts
 pub mod LoneAtOnce
+pub mod AtOnceSourced

@@ -9,11 +9,13 @@ use Rattle.cabinet_chest.specs.declared.command.Reply.TheVariants as reply
 use Rattle.cabinet_chest.specs.declared.shown.Note.{Note}
 use Rattle.cache_access.specs.declared.fault.GetFault.{GetFault}
 use Rattle.cache_access.specs.Gets.{IsGot}
+use Rattle.cache_access.specs.Sourced.{AreFromSource}
 use Rattle.cache_access.specs.Turned.{IsOf}
 use Rattle.cache_core.specs.declared.outcome.Tile.{Tile}
 use Rattle.catalog.specs.declared.catalogue.Catalogue.{Catalogue}
 use Rattle.base.specs.Causes.{Rose}
 use Rattle.matrix_geometry.specs.declared.address.Address.{Address}
+use Rattle.source_render.specs.Renders.{Renders}
 use Rattle.truncation_list.specs.declared.book.FrontedBook.{FrontedBook}
 use Rattle.truncation_list.specs.declared.cover.Cover.{Cover}
 use Rattle.turnstile.specs.declared.view.Made.{Made}
@@ -92,9 +94,11 @@ module _ {C : Type 0} (leads : C → C → List (Made Note) → Type 0) where
     pub gains : leads before after gained
     pub served : IsServedAtOnce c r gained o
 
-  -- a request was served, while the source went from one count of faults to another: it failed only if that rose
-  pub record ServesRequest (c : Catalogue) (Sound : Type 0) (seen : FrontedBook) (renders_before renders_after : ℕ) (r : Request) (before after : C) (o : Outcome) : Type 0 where
+  -- a request was served, while the source went from what it had done to this: it failed only if its count rose, and each blob that was
+  -- handed in is cut out of what it has given
+  pub record ServesRequest (c : Catalogue) (Sound : Type 0) (seen : FrontedBook) (renders_before renders_after : Renders) (r : Request) (before after : C) (o : Outcome) : Type 0 where
     pub gained : List (Made Note)
     pub gains : leads before after gained
     pub served : IsRequestServed c Sound seen r gained o
-    pub cause : o ≡ outcome.SourceFailed → Rose renders_before renders_after
+    pub from_source : AreFromSource c renders_after.gave gained
+    pub cause : o ≡ outcome.SourceFailed → Rose renders_before.failures renders_after.failures

@@ -30,7 +30,7 @@ module _ {K Counter Jobs : Type 0} (Outlasts : K → K → Type 0) (state : K �
   pub record HasReplayed (start now : ServerStanding Counter Jobs) (messages : List Message) (texts : List (List ℕ)) : Type 0 where
     pub answers : List Answer
     pub many : ℕ
-    pub through : HasServedThrough (Leads start now) told start.failures now.failures (counts (faults (keeper start.cache)) (faults (keeper now.cache))) (document start.cache) (state (keeper start.cache)) (state (keeper now.cache)) messages answers many
+    pub through : HasServedThrough (Leads start now) told start.renders.failures now.renders.failures (counts (faults (keeper start.cache)) (faults (keeper now.cache))) (document start.cache) (state (keeper start.cache)) (state (keeper now.cache)) messages answers many
     pub are_texts : responses (document start.cache) answers ≡ texts
     pub same : document now.cache ≡ document start.cache
     pub lasts : Lasts state Outlasts (keeper start.cache) (keeper now.cache)
@@ -42,7 +42,7 @@ module _ {K Counter Jobs : Type 0} (Outlasts : K → K → Type 0) (state : K �
         record {
           answers = [];
           many = 0;
-          through = served_start (Leads start start) told start.failures (faults first) (document start.cache) (state first) (leads_here state Outlasts first first (itself first) (itself first));
+          through = served_start (Leads start start) told start.renders.failures (faults first) (document start.cache) (state first) (leads_here state Outlasts first first (itself first) (itself first));
           are_texts = refl;
           same = refl;
           lasts = itself first;
@@ -52,8 +52,8 @@ module _ {K Counter Jobs : Type 0} (Outlasts : K → K → Type 0) (state : K �
       served : Serving e.message e.outcome now e.after
       served = subst (λ (s : ServerStanding Counter Jobs). Serving e.message e.outcome s e.after) before serves
 
-      its_message : Serves told now.failures e.after.failures (counts (faults (keeper now.cache)) (faults (keeper e.after.cache))) (document start.cache) (state (keeper now.cache)) e.message e.outcome (state (keeper e.after.cache))
-      its_message = subst (λ (d : List ℕ). Serves told now.failures e.after.failures (counts (faults (keeper now.cache)) (faults (keeper e.after.cache))) d (state (keeper now.cache)) e.message e.outcome (state (keeper e.after.cache))) h.same served.serves
+      its_message : Serves told now.renders.failures e.after.renders.failures (counts (faults (keeper now.cache)) (faults (keeper e.after.cache))) (document start.cache) (state (keeper now.cache)) e.message e.outcome (state (keeper e.after.cache))
+      its_message = subst (λ (d : List ℕ). Serves told now.renders.failures e.after.renders.failures (counts (faults (keeper now.cache)) (faults (keeper e.after.cache))) d (state (keeper now.cache)) e.message e.outcome (state (keeper e.after.cache))) h.same served.serves
 
       one_replayed : HasReplayed start e.after (messages ++ e.message ∷ []) (texts ++ response_at (document start.cache) (h.many + 1) e ∷ [])
       one_replayed =
@@ -88,7 +88,7 @@ module _ {K Counter Jobs : Type 0} (Outlasts : K → K → Type 0) (state : K �
       whole = all_replayed x.exchanges none_replayed x.served
 
       abbrev seen : Outside
-      seen = record { told = told; renders = counts start.failures last.failures; disk = counts (faults (keeper start.cache)) (faults (keeper last.cache)); writes = writes; from = from; to = to }
+      seen = record { told = told; renders = counts start.renders.failures last.renders.failures; disk = counts (faults (keeper start.cache)) (faults (keeper last.cache)); writes = writes; from = from; to = to }
 
       pub replayed : HasSessionThrough (Leads start last) i seen (document start.cache) (state (keeper start.cache)) (state (keeper last.cache)) end
       replayed =

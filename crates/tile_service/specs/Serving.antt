@@ -33,6 +33,6 @@ pub record Serves (told : Option ℕ) (before after : ℕ) (disk : FaultCounts) 
 -- A counter, of which these tell its keeper and its document, served a message so, from one standing to another. Its document stays, and
 -- a crash leaves from its cabinet before to that after it what keeps to the truncations that were in force.
 pub record ServesAndLasts {K Counter Jobs : Type 0} (Outlasts : K → K → Type 0) (state : K → State) (faults : K → ℕ) (keeper : Counter → K) (document : Counter → List ℕ) (told : Option ℕ) (m : Message) (o : Outcome) (before after : ServerStanding Counter Jobs) : Type 0 where
-  pub serves : Serves told before.failures after.failures (counts (faults (keeper before.cache)) (faults (keeper after.cache))) (document before.cache) (state (keeper before.cache)) m o (state (keeper after.cache))
+  pub serves : Serves told before.renders.failures after.renders.failures (counts (faults (keeper before.cache)) (faults (keeper after.cache))) (document before.cache) (state (keeper before.cache)) m o (state (keeper after.cache))
   pub same : document after.cache ≡ document before.cache
   pub lasts : Lasting (Outlasts (keeper before.cache) (keeper after.cache)) (state (keeper before.cache)) (state (keeper after.cache))
