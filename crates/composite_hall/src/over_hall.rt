@@ -6,6 +6,7 @@ ghost use Rattle.catalog.specs.Valid.{IsValid};
 ghost use Rattle.composite_hall.specs.OverHall.{ComposesOver};
 ghost use Rattle.composite_layers.specs.Parts.{place_of};
 ghost use Rattle.layer_recipes.specs.OfCatalogue.{IsPlaceIn, IsRecipeOf};
+ghost use Rattle.source_render.specs.Renders.{StaysGiven};
 
 use cabinet::Keeper;
 use cabinet_chest::CabinetChest;
@@ -38,11 +39,12 @@ pub fn compose<R: Wait, K: Keeper, S: Source>(
     requires recipe { IsRecipeOf hall.now.catalogue recipe.now }
     requires place { IsPlaceIn hall.now.catalogue (place_of recipe.now.grid z row col) }
     requires source { pass.old.told ≡ true → S.told source.old ≡ Some hall.now.catalogue.source }
-    ensures composes { ComposesOver hall.now.catalogue (place_of recipe.now.grid z row col) pass.old recipe.now.parts.items result pass.new }
+    ensures composes { ComposesOver hall.now.catalogue (S.gave source.new) (place_of recipe.now.grid z row col) pass.old recipe.now.parts.items result pass.new }
     ensures of { IsPassOf hall.now.turnstile.table hall.now.catalogue pass.new }
     ensures later { S.faults source.old ≤ S.faults source.new }
     ensures cause { IfErr result (λ e. e ≡ ComposeFault.SourceFault → Rose (S.faults source.old) (S.faults source.new)) }
     ensures told { S.told source.new ≡ S.told source.old }
+    ensures grows { StaysGiven (S.gave source.old) (S.gave source.new) }
 {
     let way = Shared { rt, hall };
     composite_layers::compose(&way, alloc, pass, source, recipe, z, row, col)

@@ -4,7 +4,9 @@ use Rattle.std.specs.Prelude.{IsSomeAnd}
 use Rattle.cabinet_chest.specs.declared.shown.Note.{Note}
 use Rattle.cache_access.specs.declared.fault.GetFault.{GetFault}
 use Rattle.cache_access.specs.Gets.{HasGot, IsNewerThanBook}
+use Rattle.cache_access.specs.Sourced.{AreFromSource}
 use Rattle.cache_access.specs.Turned.{AreTurns, left_by}
+use Rattle.cache_access.proofs.Sourcing.{sourced_more}
 use Rattle.cache_access.proofs.Turning.{left_answers}
 use Rattle.cache_core.specs.declared.outcome.Tile.{Tile}
 use Rattle.catalog.specs.declared.catalogue.Catalogue.{Catalogue}
@@ -21,12 +23,15 @@ use Rattle.layer_recipes.specs.declared.recipe.Part.{Part}
 use Rattle.layer_recipes.specs.Composite.{composite, laid_over, told_parts}
 use Rattle.layer_recipes.specs.OfCatalogue.{tile_at}
 use Rattle.layer_recipes.specs.Overlaid.{Lays, OverlaySheet}
+use Rattle.source_render.specs.Renders.{StaysGiven}
+use Rattle.source_render.proofs.Staying.{stays_itself, stays_on}
 use Rattle.truncation_list.proofs.Answering.{answers_for_cut, fronted_itself, fronted_through}
 use Rattle.truncation_list.specs.declared.book.FrontedBook.{FrontedBook}
 use Rattle.truncation_list.specs.Books.{AnswersForFronted}
 use Rattle.turnstile.specs.declared.view.Made.{Made}
 use Rattle.composite_layers.specs.OverAccess.{AreGot, AreLaidSoFar, AreNewer, ComposesAt, GetsAt, HasComposed, HasStopped, MomentOf, Stops}
 use Rattle.composite_layers.specs.Parts.{keyed, numbers_of}
+use Rattle.composite_layers.proofs.Later.{sourced_later}
 
 -- BOOKS
 
@@ -91,23 +96,33 @@ module _ {C : Type 0} (leads : C → C → List (Made Note) → Type 0) (sound :
   record HasGained (m n : MomentOf C) : Type 0 where
     gained : List (Made Note)
     gains : leads m.cache n.cache gained
+    from_source : AreFromSource c n.renders.gave gained
+    grows : StaysGiven m.renders.gave n.renders.gave
+
+  gained_by : (a : Address) (m n : MomentOf C) (r : Result Tile GetFault) → gets a m n r → HasGained m n
+  gained_by a m n r h = record { gained = h.gets.gained; gains = h.gets.gains; from_source = h.gets.from_source; grows = h.goes_on.grows }
 
   module _ (none : (x : C) → leads x x []) (on : (x y z : C) (first then : List (Made Note)) → leads x y first → leads y z then → leads x z (first ++ then)) where
     gained_none : (m : MomentOf C) → HasGained m m
-    gained_none m = record { gained = []; gains = none m.cache }
+    gained_none m = record { gained = []; gains = none m.cache; from_source = tt; grows = stays_itself m.renders.gave }
 
     gained_then : (m k n : MomentOf C) → HasGained m k → HasGained k n → HasGained m n
-    gained_then m k n first then = record { gained = first.gained ++ then.gained; gains = on m.cache k.cache n.cache first.gained then.gained first.gains then.gains }
+    gained_then m k n first then = record {
+      gained = first.gained ++ then.gained;
+      gains = on m.cache k.cache n.cache first.gained then.gained first.gains then.gains;
+      from_source = sourced_more c n.renders.gave first.gained then.gained (sourced_later c k.renders.gave n.renders.gave then.grows first.gained first.from_source) then.from_source;
+      grows = stays_on m.renders.gave k.renders.gave n.renders.gave first.grows then.grows;
+    }
 
     gained_all : (m : MomentOf C) (ps : List Part) (tiles : List Tile) (n : MomentOf C) → AreGot gets place m ps tiles n → HasGained m n
     gained_all m [] [] n got = subst (HasGained m) (sym got) (gained_none m)
     gained_all m [] (t ∷ ts) n got = absurd got
     gained_all m (p ∷ ps) [] n got = absurd got
-    gained_all m (p ∷ ps) (t ∷ ts) n got = gained_then m got.0 n (record { gained = got.1.gets.gained; gains = got.1.gets.gains }) (gained_all got.0 ps ts n got.2)
+    gained_all m (p ∷ ps) (t ∷ ts) n got = gained_then m got.0 n (gained_by (tile_at place p) m got.0 (Ok t) got.1) (gained_all got.0 ps ts n got.2)
 
     stops_gained : (m : MomentOf C) (part : Part) (stop : ComposeFault) (n : MomentOf C) → Stops gets place m part stop n → HasGained m n
-    stops_gained m part stop n (inl s) = record { gained = s.1.gets.gained; gains = s.1.gets.gains }
-    stops_gained m part stop n (inr s) = record { gained = s.1.gets.gained; gains = s.1.gets.gains }
+    stops_gained m part stop n (inl s) = gained_by (tile_at place part) m n (Err s.0) s.1
+    stops_gained m part stop n (inr s) = gained_by (tile_at place part) m n (Ok s.0) s.1
 
     -- THE WHOLE
 
@@ -117,12 +132,12 @@ module _ {C : Type 0} (leads : C → C → List (Made Note) → Type 0) (sound :
         → ((parts : List (Colour × List ℕ)) → Lays sheet parts → composed.bytes.items ≡ laid_over sheet.matrix parts) → ComposesAt leads sound seen told c place m ps (Ok composed) n
     composes_of answer m n ps x first sheet composed law matrix is so_far gives =
         let all : HasGained m n = gained_all m ps so_far.tiles n so_far.got in
-        record { gained = all.gained; gains = all.gains; came_to = composed_of answer m n ps x first sheet composed.numbers.items composed.bytes.items law matrix is so_far gives }
+        record { gained = all.gained; gains = all.gains; from_source = all.from_source; came_to = composed_of answer m n ps x first sheet composed.numbers.items composed.bytes.items law matrix is so_far gives }
 
     pub composes_stopped : (m n : MomentOf C) (ps : List Part) (stop : ComposeFault) → HasStopped gets place m ps stop n → ComposesAt leads sound seen told c place m ps (Err stop) n
     composes_stopped m n ps stop h =
         let all : HasGained m n = gained_then m h.mid n (gained_all m h.above h.tiles h.mid h.got) (stops_gained h.mid h.part stop n h.stops) in
-        record { gained = all.gained; gains = all.gains; came_to = inl h }
+        record { gained = all.gained; gains = all.gains; from_source = all.from_source; came_to = inl h }
 
     pub composes_nothing : (m : MomentOf C) (ps : List Part) → ComposesAt leads sound seen told c place m ps (Err fault.OutOfMemory) m
-    composes_nothing m ps = let all : HasGained m m = gained_none m in record { gained = all.gained; gains = all.gains; came_to = inr (refl, refl) }
+    composes_nothing m ps = let all : HasGained m m = gained_none m in record { gained = all.gained; gains = all.gains; from_source = all.from_source; came_to = inr (refl, refl) }

@@ -1,3 +1,4 @@
 pub mod Chaining
+pub mod Later
 pub mod Composing
 pub mod LoneParts

@@ -88,7 +88,7 @@ module _ {C : Type 0} (state : C → State) (disk : C → ℕ) (told : Option �
 
   -- the same moment, of the cabinet
   abbrev of : MomentOf C → CompositionMoment
-  of m = moment (state m.cache) m.faults (disk m.cache)
+  of m = moment (state m.cache) m.renders.failures (disk m.cache)
 
   part_got : (a : Address) (m n : MomentOf C) (r : Result Tile GetFault) → (state m.cache).catalogue ≡ c → IsAtRest (state m.cache) → gets a m n r → IsPartGot told (of m) a (ended_by r) (of n)
   part_got a m n r same rest h =
@@ -99,7 +99,7 @@ module _ {C : Type 0} (state : C → State) (disk : C → ℕ) (told : Option �
       let tile = subst (λ (d : Catalogue). IsTile d a) (sym same) h.tile in
       let got = subst (λ (d : Catalogue). IsGotBy d (IsSound s × (told ≡ Some d.source)) a (fronted (now s)) h.gets.gained r) (sym same) h.gets.got in
       let still = subst (λ (d : Catalogue). told ≡ Some d.source → IsSound s → IsSound t) (sym same) h.still in
-      got_of told m.faults n.faults (disk m.cache) (disk n.cache) s a (ended_by r) t rest (known told x y a m.faults n.faults h.gets.gained r tile rest h.gets.gains got h.later h.cause still)
+      got_of told m.renders.failures n.renders.failures (disk m.cache) (disk n.cache) s a (ended_by r) t rest (known told x y a m.renders.failures n.renders.failures h.gets.gained r tile rest h.gets.gains got h.goes_on.later h.cause still)
 
   -- ALL PARTS
 

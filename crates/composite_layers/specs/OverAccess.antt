@@ -1,9 +1,10 @@
 -- The parts of a recipe, got one after the other from the top down, and what a composition of them comes to, whoever commands the cache.
-use Rattle.std.specs.Prelude.{ℕ, ◌≡◌, ◌≤◌, ◌⊎◌, List, [], ◌∷◌, ◌++◌, Option, Some, Result, Ok, Err, IfErr, IsSomeAnd, ⊤}
+use Rattle.std.specs.Prelude.{ℕ, ◌≡◌, ◌⊎◌, List, [], ◌∷◌, ◌++◌, Option, Some, Result, Ok, Err, IfErr, IsSomeAnd, ⊤}
 use Rattle.cabinet_chest.specs.declared.shown.Note.{Note}
 use Rattle.cache_access.specs.declared.fault.GetFault.{GetFault}
 use Rattle.cache_access.specs.declared.fault.GetFault.TheVariants as got
 use Rattle.cache_access.specs.Gets.{Gets, IsNewerThanBook}
+use Rattle.cache_access.specs.Sourced.{AreFromSource}
 use Rattle.cache_core.specs.declared.outcome.Tile.{Tile}
 use Rattle.catalog.specs.declared.catalogue.Catalogue.{Catalogue}
 use Rattle.catalog.specs.LookUp.{IsTile, matrix_in}
@@ -18,6 +19,7 @@ use Rattle.layer_recipes.specs.Composite.{composite, laid_over}
 use Rattle.layer_recipes.specs.OfCatalogue.{tile_at}
 use Rattle.layer_recipes.specs.Overlaid.{Lays, OverlaySheet}
 use Rattle.raster_field.specs.declared.colour.Colour.{Colour}
+use Rattle.source_render.specs.Renders.{GivenImage, GoesOn, Renders}
 use Rattle.truncation_list.specs.declared.book.FrontedBook.{FrontedBook}
 use Rattle.turnstile.specs.declared.view.Made.{Made}
 use Rattle.composite_layers.specs.Parts.{keyed, numbers_of}
@@ -95,36 +97,37 @@ module _ {C : Type 0} (gets : Address → C → C → Result Tile GetFault → T
     pub lays : Lays sheet' (keyed parts tiles)
     pub numbered : numbers ≡ numbers_of tiles
 
--- THE WHOLE: all the turns that a composition made, and what it came to
+-- THE WHOLE: all the turns that a composition made, and what it came to; what they handed in is cut out of what the source has given
 module _ {C : Type 0} (leads : C → C → List (Made Note) → Type 0) (gets : Address → C → C → Result Tile GetFault → Type 0) where
-  pub record Composes (c : Catalogue) (Sound : Type 0) (seen : FrontedBook) (place : TilePlace) (before : C) (parts : List Part) (result : Result Composed ComposeFault) (after : C) : Type 0 where
+  pub record Composes (c : Catalogue) (gave : List GivenImage) (Sound : Type 0) (seen : FrontedBook) (place : TilePlace) (before : C) (parts : List Part) (result : Result Composed ComposeFault) (after : C) : Type 0 where
     pub gained : List (Made Note)
     pub gains : leads before after gained
+    pub from_source : AreFromSource c gave gained
     pub came_to : CameTo gets c Sound seen place before parts result after
 
 -- OVER ANY ACCESS
 
--- what is commanded, and how often the source has failed
+-- what is commanded, and what the source has done
 pub record MomentOf (C : Type 0) : Type 0 where
   pub cache : C
-  pub faults : ℕ
+  pub renders : Renders
 
-abbrev pub moment_of : {C : Type 0} → C → ℕ → MomentOf C
-moment_of cache faults = record { cache = cache; faults = faults }
+abbrev pub moment_of : {C : Type 0} → C → Renders → MomentOf C
+moment_of cache so_far = record { cache = cache; renders = so_far }
 
 -- by which turns lead from one to another, what makes a cache sound, and which book was seen last; and by what the source tells, and the
 -- catalogue
 module _ {C : Type 0} (leads : C → C → List (Made Note) → Type 0) (sound : C → Type 0) (seen : C → FrontedBook) (told : Option ℕ) (c : Catalogue) where
-  -- A get of a tile of the catalogue, while the source went from one count of faults to another: it failed only if that rose. If the source is
-  -- the catalogue's, a sound cache stays so.
+  -- A get of a tile of the catalogue, while the source went on: it failed only if its count rose, and what was handed in is cut out of what it
+  -- has given. If the source is the catalogue's, a sound cache stays so.
   pub record GetsAt (a : Address) (before after : MomentOf C) (result : Result Tile GetFault) : Type 0 where
     pub tile : IsTile c a
-    pub gets : Gets leads c (sound before.cache × (told ≡ Some c.source)) a (seen before.cache) before.cache after.cache result
+    pub gets : Gets leads c after.renders.gave (sound before.cache × (told ≡ Some c.source)) a (seen before.cache) before.cache after.cache result
     pub still : told ≡ Some c.source → sound before.cache → sound after.cache
-    pub later : before.faults ≤ after.faults
-    pub cause : IfErr result (λ e. e ≡ got.SourceFault → Rose before.faults after.faults)
+    pub goes_on : GoesOn before.renders after.renders
+    pub cause : IfErr result (λ e. e ≡ got.SourceFault → Rose before.renders.failures after.renders.failures)
 
   -- a composition whose parts are got so
   abbrev pub ComposesAt : TilePlace → MomentOf C → List Part → Result Composed ComposeFault → MomentOf C → Type 0
   ComposesAt place before parts result after =
-      Composes (λ x y. leads x.cache y.cache) GetsAt c (sound before.cache × (told ≡ Some c.source)) (seen before.cache) place before parts result after
+      Composes (λ x y. leads x.cache y.cache) GetsAt c after.renders.gave (sound before.cache × (told ≡ Some c.source)) (seen before.cache) place before parts result after

@@ -8,6 +8,7 @@ ghost use Rattle.composite_layers.specs.OverAccess.{AreLaidSoFar, ComposesAt, Ge
 ghost use Rattle.composite_layers.specs.Parts.{place_of};
 ghost use Rattle.layer_recipes.specs.OfCatalogue.{IsPartOf, IsPlaceIn, IsRecipeOf};
 ghost use Rattle.layer_recipes.specs.Overlaid.{Lays};
+ghost use Rattle.source_render.specs.Renders.{StaysGiven, renders};
 
 use crate::part::lay_part;
 use cache_access::Access;
@@ -35,14 +36,15 @@ fn lay_parts<A: Access, S: Source>(
     requires none { Lays overlay.old [] }
     requires no_number { numbers.old.items ≡ [] }
     ensures lays { MatchResult result
-        (λ _. AreLaidSoFar (GetsAt (A.gains access.now) (A.sound access.now) (A.seen access.now) (S.told source.old) (A.catalogue access.now cache.old)) place.now (moment_of cache.old (S.faults source.old)) parts.now overlay.old overlay.new numbers.new.items (moment_of cache.new (S.faults source.new)))
-        (λ stop. HasStopped (GetsAt (A.gains access.now) (A.sound access.now) (A.seen access.now) (S.told source.old) (A.catalogue access.now cache.old)) place.now (moment_of cache.old (S.faults source.old)) parts.now stop (moment_of cache.new (S.faults source.new))) }
+        (λ _. AreLaidSoFar (GetsAt (A.gains access.now) (A.sound access.now) (A.seen access.now) (S.told source.old) (A.catalogue access.now cache.old)) place.now (moment_of cache.old (renders (S.faults source.old) (S.gave source.old))) parts.now overlay.old overlay.new numbers.new.items (moment_of cache.new (renders (S.faults source.new) (S.gave source.new))))
+        (λ stop. HasStopped (GetsAt (A.gains access.now) (A.sound access.now) (A.seen access.now) (S.told source.old) (A.catalogue access.now cache.old)) place.now (moment_of cache.old (renders (S.faults source.old) (S.gave source.old))) parts.now stop (moment_of cache.new (renders (S.faults source.new) (S.gave source.new)))) }
     ensures goes { Goes (A.catalogue access.now) (A.reaches access.now) (A.owes access.now) (A.lasts access.now) cache.old cache.new }
     ensures still { S.told source.old ≡ Some (A.catalogue access.now cache.old).source → A.sound access.now cache.old → A.sound access.now cache.new }
     ensures rests { A.rests access.now cache.new }
     ensures later { S.faults source.old ≤ S.faults source.new }
     ensures cause { IfErr result (λ e. e ≡ ComposeFault.SourceFault → Rose (S.faults source.old) (S.faults source.new)) }
     ensures told { S.told source.new ≡ S.told source.old }
+    ensures grows { StaysGiven (S.gave source.old) (S.gave source.new) }
 {
     for part in parts {
         match lay_part(access, alloc, cache, source, place, part, overlay, numbers) {
@@ -75,13 +77,14 @@ pub fn compose<A: Access, S: Source>(
     requires recipe { IsRecipeOf (A.catalogue access.now cache.old) recipe.now }
     requires place { IsPlaceIn (A.catalogue access.now cache.old) (place_of recipe.now.grid z row col) }
     requires source { A.owes access.now cache.old → S.told source.old ≡ Some (A.catalogue access.now cache.old).source }
-    ensures composes { ComposesAt (A.gains access.now) (A.sound access.now) (A.seen access.now) (S.told source.old) (A.catalogue access.now cache.old) (place_of recipe.now.grid z row col) (moment_of cache.old (S.faults source.old)) recipe.now.parts.items result (moment_of cache.new (S.faults source.new)) }
+    ensures composes { ComposesAt (A.gains access.now) (A.sound access.now) (A.seen access.now) (S.told source.old) (A.catalogue access.now cache.old) (place_of recipe.now.grid z row col) (moment_of cache.old (renders (S.faults source.old) (S.gave source.old))) recipe.now.parts.items result (moment_of cache.new (renders (S.faults source.new) (S.gave source.new))) }
     ensures goes { Goes (A.catalogue access.now) (A.reaches access.now) (A.owes access.now) (A.lasts access.now) cache.old cache.new }
     ensures still { S.told source.old ≡ Some (A.catalogue access.now cache.old).source → A.sound access.now cache.old → A.sound access.now cache.new }
     ensures rests { A.rests access.now cache.new }
     ensures later { S.faults source.old ≤ S.faults source.new }
     ensures cause { IfErr result (λ e. e ≡ ComposeFault.SourceFault → Rose (S.faults source.old) (S.faults source.new)) }
     ensures told { S.told source.new ≡ S.told source.old }
+    ensures grows { StaysGiven (S.gave source.old) (S.gave source.new) }
 {
     laws_of_composites();
     let place = TilePlace {

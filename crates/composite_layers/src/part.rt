@@ -5,6 +5,7 @@ ghost use Rattle.cache_access.specs.Turned.{Goes};
 ghost use Rattle.catalog.specs.Valid.{IsValid};
 ghost use Rattle.composite_layers.specs.OverAccess.{GetsAt, IsLaid, Stops, moment_of};
 ghost use Rattle.layer_recipes.specs.OfCatalogue.{IsPartOf, IsPlaceIn, tile_at};
+ghost use Rattle.source_render.specs.Renders.{StaysGiven, renders};
 
 use cache_access::{Access, GetFault, get};
 use cache_core::Tile;
@@ -27,13 +28,14 @@ fn get_part<A: Access, S: Source>(
     requires part { IsPartOf (A.catalogue access.now cache.old) place.now.grid part.now }
     requires place { IsPlaceIn (A.catalogue access.now cache.old) place.now }
     requires source { A.owes access.now cache.old → S.told source.old ≡ Some (A.catalogue access.now cache.old).source }
-    ensures gets { GetsAt (A.gains access.now) (A.sound access.now) (A.seen access.now) (S.told source.old) (A.catalogue access.now cache.old) (tile_at place.now part.now) (moment_of cache.old (S.faults source.old)) (moment_of cache.new (S.faults source.new)) result }
+    ensures gets { GetsAt (A.gains access.now) (A.sound access.now) (A.seen access.now) (S.told source.old) (A.catalogue access.now cache.old) (tile_at place.now part.now) (moment_of cache.old (renders (S.faults source.old) (S.gave source.old))) (moment_of cache.new (renders (S.faults source.new) (S.gave source.new))) result }
     ensures goes { Goes (A.catalogue access.now) (A.reaches access.now) (A.owes access.now) (A.lasts access.now) cache.old cache.new }
     ensures still { S.told source.old ≡ Some (A.catalogue access.now cache.old).source → A.sound access.now cache.old → A.sound access.now cache.new }
     ensures rests { A.rests access.now cache.new }
     ensures later { S.faults source.old ≤ S.faults source.new }
     ensures cause { IfErr result (λ e. e ≡ GetFault.SourceFault → Rose (S.faults source.old) (S.faults source.new)) }
     ensures told { S.told source.new ≡ S.told source.old }
+    ensures grows { StaysGiven (S.gave source.old) (S.gave source.new) }
 {
     get(access, alloc, cache, source, &place.tile(part))
 }
@@ -56,14 +58,15 @@ pub(crate) fn lay_part<A: Access, S: Source>(
     requires place { IsPlaceIn (A.catalogue access.now cache.old) place.now }
     requires source { A.owes access.now cache.old → S.told source.old ≡ Some (A.catalogue access.now cache.old).source }
     ensures lays { MatchResult result
-        (λ _. IsLaid (GetsAt (A.gains access.now) (A.sound access.now) (A.seen access.now) (S.told source.old) (A.catalogue access.now cache.old)) place.now (moment_of cache.old (S.faults source.old)) part.now overlay.old overlay.new numbers.old.items numbers.new.items (moment_of cache.new (S.faults source.new)))
-        (λ stop. Stops (GetsAt (A.gains access.now) (A.sound access.now) (A.seen access.now) (S.told source.old) (A.catalogue access.now cache.old)) place.now (moment_of cache.old (S.faults source.old)) part.now stop (moment_of cache.new (S.faults source.new))) }
+        (λ _. IsLaid (GetsAt (A.gains access.now) (A.sound access.now) (A.seen access.now) (S.told source.old) (A.catalogue access.now cache.old)) place.now (moment_of cache.old (renders (S.faults source.old) (S.gave source.old))) part.now overlay.old overlay.new numbers.old.items numbers.new.items (moment_of cache.new (renders (S.faults source.new) (S.gave source.new))))
+        (λ stop. Stops (GetsAt (A.gains access.now) (A.sound access.now) (A.seen access.now) (S.told source.old) (A.catalogue access.now cache.old)) place.now (moment_of cache.old (renders (S.faults source.old) (S.gave source.old))) part.now stop (moment_of cache.new (renders (S.faults source.new) (S.gave source.new)))) }
     ensures goes { Goes (A.catalogue access.now) (A.reaches access.now) (A.owes access.now) (A.lasts access.now) cache.old cache.new }
     ensures still { S.told source.old ≡ Some (A.catalogue access.now cache.old).source → A.sound access.now cache.old → A.sound access.now cache.new }
     ensures rests { A.rests access.now cache.new }
     ensures later { S.faults source.old ≤ S.faults source.new }
     ensures cause { IfErr result (λ e. e ≡ ComposeFault.SourceFault → Rose (S.faults source.old) (S.faults source.new)) }
     ensures told { S.told source.new ≡ S.told source.old }
+    ensures grows { StaysGiven (S.gave source.old) (S.gave source.new) }
 {
     match get_part(access, alloc, cache, source, place, part) {
         Ok(tile) => {

@@ -6,6 +6,8 @@ use Rattle.catalog.specs.Valid.{IsValid}
 use Rattle.cache_access.proofs.Going.{goes_here, goes_on}
 use Rattle.layer_recipes.specs.declared.recipe.Part.{Part}
 use Rattle.layer_recipes.specs.OfCatalogue.{IsPartOf, IsPlaceIn}
+use Rattle.source_render.specs.Renders.{renders}
+use Rattle.source_render.proofs.Staying.{stays_itself, stays_on}
 use Rattle.composite_layers.specs.OverAccess.{GetsAt, IsLaid, Stops, moment_of}
 use Rattle.composite_layers.proofs.Chaining.{more_laid, none_laid, part_at, parted_at, stopped_at}
 use Rattle.composite_layers.proofs.over_access.lay_parts.Goals as goal
@@ -20,7 +22,7 @@ loop-part-init g c =
     let S = g.S.Source in
     let way = c.args.access.now in
     let x = c.args.cache.now in
-    let first = moment_of x (S.faults c.args.source.now) in
+    let first = moment_of x (renders (S.faults c.args.source.now) (S.gave c.args.source.now)) in
     record {
       laid = none_laid (GetsAt (A.gains way) (A.sound way) (A.seen way) (S.told c.args.source.now) (A.catalogue way x)) c.args.place.now first c.args.overlay.now c.args.numbers.now.items c.requires.none c.requires.no_number;
       goes = goes_here (A.catalogue way) (A.reaches way) (A.owes way) (A.lasts way) x c.requires.reaches (A.lasts_itself way x);
@@ -28,6 +30,7 @@ loop-part-init g c =
       rests = c.requires.rests;
       later = omega arith;
       told = refl;
+      grows = stays_itself (S.gave c.args.source.now);
     }
 
 pub lay_part-requires-clause-valid : goal.lay_part-requires-clause-valid
@@ -56,9 +59,9 @@ returns-in-Err-clause-lays g c =
     let parts = c.args.parts.now in
     let at = c.loop-part.part-index in
     let within : at < length parts = omega arith in
-    let first = moment_of c.args.cache.now (S.faults c.args.source.now) in
-    let mid = moment_of c.loop-part.cache (S.faults c.loop-part.source) in
-    let last = moment_of c.lay_part.new.cache (S.faults c.lay_part.new.source) in
+    let first = moment_of c.args.cache.now (renders (S.faults c.args.source.now) (S.gave c.args.source.now)) in
+    let mid = moment_of c.loop-part.cache (renders (S.faults c.loop-part.source) (S.gave c.loop-part.source)) in
+    let last = moment_of c.lay_part.new.cache (renders (S.faults c.lay_part.new.source) (S.gave c.lay_part.new.source)) in
     let stops = λ (t : Option ℕ) (d : Catalogue). Stops (GetsAt (A.gains way) (A.sound way) (A.seen way) t d) c.args.place.now mid (get_or parts at none) c.in-Err.stop last in
     let here = subst (λ (t : Option ℕ). stops t (A.catalogue way c.args.cache.now)) i.told (subst (λ (d : Catalogue). stops (S.told c.loop-part.source) d) i.goes.same c.in-Err.ensures.lays) in
     stopped_at (GetsAt (A.gains way) (A.sound way) (A.seen way) (S.told c.args.source.now) (A.catalogue way c.args.cache.now)) c.args.place.now first mid last parts (take at parts) (drop (suc at) parts) (get_or parts at none)
@@ -66,6 +69,9 @@ returns-in-Err-clause-lays g c =
 
 pub returns-in-Err-clause-cause : goal.returns-in-Err-clause-cause
 returns-in-Err-clause-cause g c = λ is. let rose = c.in-Err.ensures.cause is in let later = c.loop-part.invariant.later in omega (arith, rose, later)
+
+pub returns-in-Err-clause-grows : goal.returns-in-Err-clause-grows
+returns-in-Err-clause-grows g c = let S = g.S.Source in stays_on (S.gave c.args.source.now) (S.gave c.loop-part.source) (S.gave c.lay_part.new.source) c.loop-part.invariant.grows c.lay_part.ensures.grows
 
 pub returns-in-Err-clause-goes : goal.returns-in-Err-clause-goes
 returns-in-Err-clause-goes g c =
@@ -89,9 +95,9 @@ loop-part-preserved g c =
     let x = c.args.cache.now in
     let y = c.loop-part.cache in
     let z = c.lay_part.new.cache in
-    let first = moment_of x (S.faults c.args.source.now) in
-    let mid = moment_of y (S.faults c.loop-part.source) in
-    let last = moment_of z (S.faults c.lay_part.new.source) in
+    let first = moment_of x (renders (S.faults c.args.source.now) (S.gave c.args.source.now)) in
+    let mid = moment_of y (renders (S.faults c.loop-part.source) (S.gave c.loop-part.source)) in
+    let last = moment_of z (renders (S.faults c.lay_part.new.source) (S.gave c.lay_part.new.source)) in
     let laid = λ (t : Option ℕ) (d : Catalogue). IsLaid (GetsAt (A.gains way) (A.sound way) (A.seen way) t d) c.args.place.now mid (get_or parts at none) c.loop-part.overlay c.lay_part.new.overlay c.loop-part.numbers.items c.lay_part.new.numbers.items last in
     let here = subst (λ (t : Option ℕ). laid t (A.catalogue way x)) i.told (subst (λ (d : Catalogue). laid (S.told c.loop-part.source) d) i.goes.same c.in-Ok.ensures.lays) in
     record {
@@ -102,4 +108,5 @@ loop-part-preserved g c =
       rests = e.rests;
       later = omega (arith, e.later, i.later);
       told = e.told ∙ i.told;
+      grows = stays_on (S.gave c.args.source.now) (S.gave c.loop-part.source) (S.gave c.lay_part.new.source) i.grows e.grows;
     }
