@@ -12,6 +12,7 @@ use Rattle.job_forms.specs.declared.job.Job.{Job}
 use Rattle.job_forms.specs.declared.job.JobKind.{JobKind}
 use Rattle.job_forms.specs.declared.job.JobKind.TheVariants as kind
 use Rattle.job_forms.specs.Places.{Cut, Place, places, places_of}
+use Rattle.source_render.specs.Renders.{Renders}
 use Rattle.truncation_list.specs.declared.book.FrontedBook.{FrontedBook}
 use Rattle.truncation_list.specs.declared.cover.Cover.{Cover}
 use Rattle.turnstile.specs.declared.view.Made.{Made}
@@ -31,9 +32,9 @@ module _ {C : Type 0} (leads : C → C → List (Made Note) → Type 0) (p q : C
   first_is_cut cover (suc place) within = absurd (omega (arith, within))
 
   -- and a truncation is the visit of it
-  pub visits_cut : (c : Catalogue) (Sound : Type 0) (job : Job) (place : ℕ) (seen sees : FrontedBook) (count : ℕ) (end : PlaceEnd) → job.kind ≡ kind.Truncate → place < length (places c job) → HasCut leads job.cover p q end
-      → Visits leads c Sound job place seen sees count count p q end
-  visits_cut c Sound job place seen sees count end is within h =
+  pub visits_cut : (c : Catalogue) (Sound : Type 0) (job : Job) (place : ℕ) (seen sees : FrontedBook) (so_far : Renders) (end : PlaceEnd) → job.kind ≡ kind.Truncate → place < length (places c job) → HasCut leads job.cover p q end
+      → Visits leads c Sound job place seen sees so_far so_far p q end
+  visits_cut c Sound job place seen sees so_far end is within h =
       let there : places c job ≡ Cut job.cover ∷ [] = ap (λ (k : JobKind). places_of c k job.cover) is in
       let first : place < 1 = subst (λ (ps : List Place). place < length ps) there within in
       record {

@@ -11,6 +11,7 @@ use Rattle.base.specs.Causes.{Rose}
 use Rattle.job_forms.specs.declared.job.Job.{Job}
 use Rattle.job_forms.specs.Places.{Metatile, places}
 use Rattle.metatile_plan.specs.declared.metatile.MetaKey.{MetaKey}
+use Rattle.source_render.specs.Renders.{Renders, StaysGiven}
 use Rattle.truncation_list.specs.declared.book.FrontedBook.{FrontedBook}
 use Rattle.turnstile.specs.declared.view.Made.{Made}
 use Rattle.job_places.specs.Ends.{end_of_refresh}
@@ -26,10 +27,10 @@ caused : (r : Result Refreshed GetFault) (Cause : Type 0) → IfErr r (λ e. e �
 caused (Ok x) Cause h is = absurd (no_fault is)
 caused (Err e) Cause h is = h (fault_same is)
 
-pub refreshed_so : {C : Type 0} (leads : C → C → List (Made Note) → Type 0) (p q : C) (c : Catalogue) (Sound : Type 0) (job : Job) (place : ℕ) (seen sees : FrontedBook) (before after : ℕ) (m : MetaKey) (force : Bool) (answer : Result Refreshed GetFault)
-    → slice_get (places c job) place ≡ Some (Metatile m) → force ≡ forces job.kind → Refreshes leads c Sound m force seen p q answer → before ≤ after → IfErr answer (λ e. e ≡ SourceFault → Rose before after)
+pub refreshed_so : {C : Type 0} (leads : C → C → List (Made Note) → Type 0) (p q : C) (c : Catalogue) (Sound : Type 0) (job : Job) (place : ℕ) (seen sees : FrontedBook) (before after : Renders) (m : MetaKey) (force : Bool) (answer : Result Refreshed GetFault)
+    → slice_get (places c job) place ≡ Some (Metatile m) → force ≡ forces job.kind → Refreshes leads c after.gave Sound m force seen p q answer → before.failures ≤ after.failures → StaysGiven before.gave after.gave → IfErr answer (λ e. e ≡ SourceFault → Rose before.failures after.failures)
     → Visits leads c Sound job place seen sees before after p q (end_of_refresh answer)
-refreshed_so leads p q c Sound job place seen sees before after m force answer at same did later cause = record {
+refreshed_so leads p q c Sound job place seen sees before after m force answer at same did later grows cause = record {
   gained = did.gained;
   gains = did.gains;
   visit = record {
@@ -39,8 +40,9 @@ refreshed_so leads p q c Sound job place seen sees before after m force answer a
       answer = answer;
       came_to = subst (λ (b : Bool). CameTo c Sound m b seen did.gained answer) same did.came_to;
       ended = refl;
-      later = later;
-      cause = caused answer (Rose before after) cause;
+      goes_on = record { later = later; grows = grows };
+      cause = caused answer (Rose before.failures after.failures) cause;
+      from_source = did.from_source;
     };
   };
 }

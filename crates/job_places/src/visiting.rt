@@ -7,6 +7,7 @@ ghost use Rattle.job_forms.specs.Places.{places};
 ghost use Rattle.job_places.specs.Ends.{end_of_cut, end_of_refresh};
 ghost use Rattle.job_places.specs.Visits.{HasCut, Visits, forces};
 ghost use Rattle.served_covers.specs.OfCatalogue.{IsCoverOf};
+ghost use Rattle.source_render.specs.Renders.{renders};
 
 use crate::place::{PlaceEnd, PlaceFault};
 use cabinet::CutReply;
@@ -69,7 +70,7 @@ fn refresh_at<A: Access, S: Source>(
     requires kind { job.now.kind ≢ JobKind.Truncate }
     requires place { place < length (places (A.catalogue access.now cache.old) job.now) }
     requires source { A.owes access.now cache.old → S.told source.old ≡ Some (A.catalogue access.now cache.old).source }
-    ensures visits { Visits (A.gains access.now) (A.catalogue access.now cache.old) (A.sound access.now cache.old × (S.told source.old ≡ Some (A.catalogue access.now cache.old).source)) job.now place (A.seen access.now cache.old) (A.seen access.now cache.new) (S.faults source.old) (S.faults source.new) cache.old cache.new result }
+    ensures visits { Visits (A.gains access.now) (A.catalogue access.now cache.old) (A.sound access.now cache.old × (S.told source.old ≡ Some (A.catalogue access.now cache.old).source)) job.now place (A.seen access.now cache.old) (A.seen access.now cache.new) (renders (S.faults source.old) (S.gave source.old)) (renders (S.faults source.new) (S.gave source.new)) cache.old cache.new result }
     ensures goes { Goes (A.catalogue access.now) (A.reaches access.now) (A.owes access.now) (A.lasts access.now) cache.old cache.new }
     ensures still { S.told source.old ≡ Some (A.catalogue access.now cache.old).source → A.sound access.now cache.old → A.sound access.now cache.new }
     ensures rests { A.rests access.now cache.new }
@@ -112,7 +113,7 @@ pub fn visit<A: Access, S: Source>(
     requires fits { Fits (A.catalogue access.now cache.old) job.now }
     requires place { place < length (places (A.catalogue access.now cache.old) job.now) }
     requires source { A.owes access.now cache.old → S.told source.old ≡ Some (A.catalogue access.now cache.old).source }
-    ensures visits { Visits (A.gains access.now) (A.catalogue access.now cache.old) (A.sound access.now cache.old × (S.told source.old ≡ Some (A.catalogue access.now cache.old).source)) job.now place (A.seen access.now cache.old) (A.seen access.now cache.new) (S.faults source.old) (S.faults source.new) cache.old cache.new result }
+    ensures visits { Visits (A.gains access.now) (A.catalogue access.now cache.old) (A.sound access.now cache.old × (S.told source.old ≡ Some (A.catalogue access.now cache.old).source)) job.now place (A.seen access.now cache.old) (A.seen access.now cache.new) (renders (S.faults source.old) (S.gave source.old)) (renders (S.faults source.new) (S.gave source.new)) cache.old cache.new result }
     ensures goes { Goes (A.catalogue access.now) (A.reaches access.now) (A.owes access.now) (A.lasts access.now) cache.old cache.new }
     ensures still { S.told source.old ≡ Some (A.catalogue access.now cache.old).source → A.sound access.now cache.old → A.sound access.now cache.new }
     ensures rests { A.rests access.now cache.new }

@@ -1,5 +1,5 @@
 -- A visit over any access, by a pass of a hall.
-use Rattle.std.proofs.Common.{ℕ, ◌≡◌, Bool, true, List, Some, Result, Ok, Err}
+use Rattle.std.proofs.Common.{ℕ, ◌≡◌, Bool, true, List, Result, Ok, Err}
 use Rattle.cabinet.specs.declared.replies.Finished.{Finished}
 use Rattle.cabinet_chest.specs.declared.shown.Note.{Note}
 use Rattle.cache_access.specs.declared.fault.GetFault.{GetFault}
@@ -15,6 +15,7 @@ use Rattle.job_forms.specs.declared.job.Job.{Job}
 use Rattle.job_forms.specs.declared.job.JobKind.{JobKind}
 use Rattle.job_forms.specs.Places.{Cut, Metatile, Place}
 use Rattle.metatile_plan.specs.declared.metatile.MetaKey.{MetaKey}
+use Rattle.source_render.specs.Renders.{Renders}
 use Rattle.truncation_list.specs.declared.book.FrontedBook.{FrontedBook}
 use Rattle.turnstile.specs.declared.view.Made.{Made}
 use Rattle.seed_jobs.specs.Visited.{HasVisited}
@@ -56,14 +57,14 @@ module _ (c : Catalogue) (P Q : Type 0) (less : Q → P) where
   came_if m force seen gained (Err got.OutOfMemory) h = h
 
   work_if : (kind : JobKind) (at : Place) (v : Visit) → IsWorkAt c P kind at v → IsWorkAt c Q kind at v
-  work_if kind (Metatile m) v h = record { answer = h.answer; came_to = came_if m _ v.seen v.gained h.answer h.came_to; ended = h.ended; later = h.later; cause = h.cause }
+  work_if kind (Metatile m) v h = record { answer = h.answer; came_to = came_if m _ v.seen v.gained h.answer h.came_to; ended = h.ended; goes_on = h.goes_on; cause = h.cause; from_source = h.from_source }
   work_if kind (Cut cover) v h = h
 
   visit_if : (job : Job) (v : Visit) → IsVisit c P job v → IsVisit c Q job v
   visit_if job v h = record { at = h.at; is_place = h.is_place; work = work_if job.kind h.at v h.work }
 
 -- if the pass tells a sound cabinet, the source is the catalogue's
-pub visited_so : (c : Catalogue) (Told : Type 0) (job : Job) (place before after : ℕ) (p q : HallPass) (end : PlaceEnd) → (p.told ≡ true → Told)
+pub visited_so : (c : Catalogue) (Told : Type 0) (job : Job) (place : ℕ) (before after : Renders) (p q : HallPass) (end : PlaceEnd) → (p.told ≡ true → Told)
     → Visits (GainsTurns c) c ((p.told ≡ true) × Told) job place p.book q.book before after p q end → HasVisited c job place before after p q end
 visited_so c Told job place before after p q end owes h = record {
   gained = h.gained;

@@ -9,6 +9,7 @@ use Rattle.job_board.specs.SheetCalls.{Gathers, HasEnded, ShareOut, claimed_by, 
 use Rattle.job_board.specs.Hands.{HasGathered, Sheet, SheetHolding, own, own_of, watching}
 use Rattle.job_board.specs.Standings.{IsSound, Later, LaterAccount, account}
 use Rattle.job_board.proofs.Gathered.{all_places, sees_end, shares_out}
+use Rattle.source_render.specs.Renders.{GivenImage}
 use Rattle.seed_jobs.specs.declared.member.Member.{Member}
 use Rattle.seed_jobs.specs.Crews.{AreShared, SeesEnd, hands_of}
 use Rattle.seed_jobs.specs.Gathered.{AreAlike, AreAll, HasHeard, IsAlike}
@@ -94,14 +95,14 @@ module _ {K S G : Type 0} where
       (ap (λ (h : SheetHolding). slice_set members i (record (get_or members i d) { hand = h })) same ∙ set_itself members i d within)
       (λ e. ap (λ (m : Member K S G). m.hand) (get_any members i e d within)) gathers
 
-  module _ (tells : S → Option ℕ) (faults : S → ℕ) where
+  module _ (tells : S → Option ℕ) (faults : S → ℕ) (gave : S → List GivenImage) where
     -- what holds of each hand holds of the one at a place
-    pub each_hand : (P : SheetHolding → Type 0) (ms : List (Member K S G)) → All P (hands_of (workers_of tells faults ms)) → (i : ℕ) (d : Member K S G) → i < length ms → P (get_or ms i d).hand
+    pub each_hand : (P : SheetHolding → Type 0) (ms : List (Member K S G)) → All P (hands_of (workers_of tells faults gave ms)) → (i : ℕ) (d : Member K S G) → i < length ms → P (get_or ms i d).hand
     each_hand P [] all i d within = absurd (omega (arith, within))
     each_hand P (m ∷ ms) all zero d within = all 0 m.hand (omega arith)
     each_hand P (m ∷ ms) all (suc i) d within = each_hand P ms (λ k e below. all (suc k) e (omega (arith, below))) i d (omega (arith, within))
 
-    pub hears_of : (sheet : Sheet) (start now : SheetHolding) (before members : List (Member K S G)) (i : ℕ) (d : Member K S G) → IsHearing start now before members i → start.sheet ≡ sheet → All (λ (h : SheetHolding). h.sheet ≡ sheet) (hands_of (workers_of tells faults before)) → i < length before
+    pub hears_of : (sheet : Sheet) (start now : SheetHolding) (before members : List (Member K S G)) (i : ℕ) (d : Member K S G) → IsHearing start now before members i → start.sheet ≡ sheet → All (λ (h : SheetHolding). h.sheet ≡ sheet) (hands_of (workers_of tells faults gave before)) → i < length before
         → (now.sheet ≡ sheet) × ((get_or members i d).hand.sheet ≡ sheet)
     hears_of sheet start now before members i d so_far own theirs within = (
       ap (λ (h : SheetHolding). h.sheet) so_far.is ∙ own,
@@ -109,41 +110,41 @@ module _ {K S G : Type 0} where
           (each_hand (λ (h : SheetHolding). h.sheet ≡ sheet) before theirs i d within),
     )
 
-    pub hears_all : (start now : SheetHolding) (before members : List (Member K S G)) (i : ℕ) → IsHearing start now before members i → length before ≤ i → HasHeard start now (hands_of (workers_of tells faults before))
+    pub hears_all : (start now : SheetHolding) (before members : List (Member K S G)) (i : ℕ) → IsHearing start now before members i → length before ≤ i → HasHeard start now (hands_of (workers_of tells faults gave before))
     hears_all start now before members i so_far all = record {
       is = so_far.is;
       own_is = so_far.own_is;
-      heard = All-map (λ (h : SheetHolding). Later h.seen now.seen) (λ (w : JobWorker). w.hand) (workers_of tells faults before)
-          (All-map (λ (w : JobWorker). Later w.hand.seen now.seen) (worker_of tells faults) before (λ k d within. so_far.heard k d (omega arith) (omega (arith, within, all))));
+      heard = All-map (λ (h : SheetHolding). Later h.seen now.seen) (λ (w : JobWorker). w.hand) (workers_of tells faults gave before)
+          (All-map (λ (w : JobWorker). Later w.hand.seen now.seen) (worker_of tells faults gave) before (λ k d within. so_far.heard k d (omega arith) (omega (arith, within, all))));
     }
 
     -- THE CREW, of the first member and the others
 
-    alike_itself : (ms : List (Member K S G)) → AreAlike (workers_of tells faults ms) (workers_of tells faults ms)
+    alike_itself : (ms : List (Member K S G)) → AreAlike (workers_of tells faults gave ms) (workers_of tells faults gave ms)
     alike_itself [] = tt
     alike_itself (m ∷ ms) = (record { hand = refl; own_is = refl; is = refl }, alike_itself ms)
 
-    pub alike_all : (crew others left : List (Member K S G)) (first then : Member K S G) → crew ≡ first ∷ others → left ≡ others → IsAlike (worker_of tells faults first) (worker_of tells faults then) → AreAlike (workers_of tells faults crew) (workers_of tells faults (then ∷ left))
+    pub alike_all : (crew others left : List (Member K S G)) (first then : Member K S G) → crew ≡ first ∷ others → left ≡ others → IsAlike (worker_of tells faults gave first) (worker_of tells faults gave then) → AreAlike (workers_of tells faults gave crew) (workers_of tells faults gave (then ∷ left))
     alike_all crew others left first then is same alike =
-        subst (λ (ms : List (Member K S G)). AreAlike (workers_of tells faults ms) (workers_of tells faults (then ∷ left))) (sym is)
-        (subst (λ (ms : List (Member K S G)). AreAlike (workers_of tells faults (first ∷ others)) (workers_of tells faults (then ∷ ms))) (sym same) (alike, alike_itself others))
+        subst (λ (ms : List (Member K S G)). AreAlike (workers_of tells faults gave ms) (workers_of tells faults gave (then ∷ left))) (sym is)
+        (subst (λ (ms : List (Member K S G)). AreAlike (workers_of tells faults gave (first ∷ others)) (workers_of tells faults gave (then ∷ ms))) (sym same) (alike, alike_itself others))
 
     pub shared_all : (sheet : Sheet) (crew others left : List (Member K S G)) (first then : Member K S G) → crew ≡ first ∷ others → left ≡ others
-        → (AreAll sheet (first.hand ∷ hands_of (workers_of tells faults others)) → AreShared sheet (then.hand ∷ hands_of (workers_of tells faults others)) (claimed_by (then.hand ∷ hands_of (workers_of tells faults others))))
-        → AreAll sheet (hands_of (workers_of tells faults crew)) → AreShared sheet (hands_of (workers_of tells faults (then ∷ left))) (claimed_by (hands_of (workers_of tells faults (then ∷ left))))
+        → (AreAll sheet (first.hand ∷ hands_of (workers_of tells faults gave others)) → AreShared sheet (then.hand ∷ hands_of (workers_of tells faults gave others)) (claimed_by (then.hand ∷ hands_of (workers_of tells faults gave others))))
+        → AreAll sheet (hands_of (workers_of tells faults gave crew)) → AreShared sheet (hands_of (workers_of tells faults gave (then ∷ left))) (claimed_by (hands_of (workers_of tells faults gave (then ∷ left))))
     shared_all sheet crew others left first then is same shared all =
-        subst (λ (ms : List (Member K S G)). AreShared sheet (hands_of (workers_of tells faults (then ∷ ms))) (claimed_by (hands_of (workers_of tells faults (then ∷ ms))))) (sym same)
-        (shared (subst (λ (ms : List (Member K S G)). AreAll sheet (hands_of (workers_of tells faults ms))) is all))
+        subst (λ (ms : List (Member K S G)). AreShared sheet (hands_of (workers_of tells faults gave (then ∷ ms))) (claimed_by (hands_of (workers_of tells faults gave (then ∷ ms))))) (sym same)
+        (shared (subst (λ (ms : List (Member K S G)). AreAll sheet (hands_of (workers_of tells faults gave ms))) is all))
 
     pub ended_all : (sheet : Sheet) (crew others left : List (Member K S G)) (first then : Member K S G) (watch : SheetHolding) → crew ≡ first ∷ others → left ≡ others
-        → (AreAll sheet (first.hand ∷ hands_of (workers_of tells faults others)) → SeesEnd sheet (done_by (then.hand ∷ hands_of (workers_of tells faults others))) (failed_by (then.hand ∷ hands_of (workers_of tells faults others))) (unkept_by (then.hand ∷ hands_of (workers_of tells faults others))) watch)
-        → AreAll sheet (hands_of (workers_of tells faults crew)) → SeesEnd sheet (done_by (hands_of (workers_of tells faults (then ∷ left)))) (failed_by (hands_of (workers_of tells faults (then ∷ left)))) (unkept_by (hands_of (workers_of tells faults (then ∷ left)))) watch
+        → (AreAll sheet (first.hand ∷ hands_of (workers_of tells faults gave others)) → SeesEnd sheet (done_by (then.hand ∷ hands_of (workers_of tells faults gave others))) (failed_by (then.hand ∷ hands_of (workers_of tells faults gave others))) (unkept_by (then.hand ∷ hands_of (workers_of tells faults gave others))) watch)
+        → AreAll sheet (hands_of (workers_of tells faults gave crew)) → SeesEnd sheet (done_by (hands_of (workers_of tells faults gave (then ∷ left)))) (failed_by (hands_of (workers_of tells faults gave (then ∷ left)))) (unkept_by (hands_of (workers_of tells faults gave (then ∷ left)))) watch
     ended_all sheet crew others left first then watch is same ended all =
-        subst (λ (ms : List (Member K S G)). SeesEnd sheet (done_by (hands_of (workers_of tells faults (then ∷ ms)))) (failed_by (hands_of (workers_of tells faults (then ∷ ms)))) (unkept_by (hands_of (workers_of tells faults (then ∷ ms)))) watch) (sym same)
-        (ended (subst (λ (ms : List (Member K S G)). AreAll sheet (hands_of (workers_of tells faults ms))) is all))
+        subst (λ (ms : List (Member K S G)). SeesEnd sheet (done_by (hands_of (workers_of tells faults gave (then ∷ ms)))) (failed_by (hands_of (workers_of tells faults gave (then ∷ ms)))) (unkept_by (hands_of (workers_of tells faults gave (then ∷ ms)))) watch) (sym same)
+        (ended (subst (λ (ms : List (Member K S G)). AreAll sheet (hands_of (workers_of tells faults gave ms))) is all))
 
-    pub theirs_of : (sheet : Sheet) (crew others : List (Member K S G)) (first : Member K S G) → crew ≡ first ∷ others → All (λ (h : SheetHolding). h.sheet ≡ sheet) (hands_of (workers_of tells faults crew)) → All (λ (h : SheetHolding). h.sheet ≡ sheet) (first.hand ∷ hands_of (workers_of tells faults others))
-    theirs_of sheet crew others first is all = subst (λ (ms : List (Member K S G)). All (λ (h : SheetHolding). h.sheet ≡ sheet) (hands_of (workers_of tells faults ms))) is all
+    pub theirs_of : (sheet : Sheet) (crew others : List (Member K S G)) (first : Member K S G) → crew ≡ first ∷ others → All (λ (h : SheetHolding). h.sheet ≡ sheet) (hands_of (workers_of tells faults gave crew)) → All (λ (h : SheetHolding). h.sheet ≡ sheet) (first.hand ∷ hands_of (workers_of tells faults gave others))
+    theirs_of sheet crew others first is all = subst (λ (ms : List (Member K S G)). All (λ (h : SheetHolding). h.sheet ≡ sheet) (hands_of (workers_of tells faults gave ms))) is all
 
 -- WHAT THE FIRST HAND KNOWS
 

@@ -1,14 +1,12 @@
 -- One more look at the board, and what it brought about.
-use Rattle.std.proofs.Common.{arith, ℕ, ◌≡◌, ◌≢◌, ◌≤◌, ◌-◌, ◌==◌, ◌∙◌, ◌⊎◌, inl, inr, Bool, true, false, if◌then◌else◌, List, [], ◌∷◌, ◌++◌, length, length-append, length-set, Option, Some, None, refl, sym, ap, subst}
+use Rattle.std.proofs.Common.{arith, ℕ, ◌≡◌, ◌≢◌, ◌≤◌, ◌-◌, ◌∙◌, inl, inr, Bool, true, false, if◌then◌else◌, List, [], ◌∷◌, ◌++◌, length, length-append, length-set, Option, Some, None, refl, sym, ap, subst}
 use Rattle.std.specs.Prelude.{slice_get}
 use Rattle.std.proofs.lemmas.List.{append-nil, append_assoc}
 use Rattle.std.proofs.lemmas.Option.{none-some, slice_get-get_or}
 use Rattle.catalog.specs.declared.catalogue.Catalogue.{Catalogue}
-use Rattle.job_places.specs.declared.tally.Tally.{Tally}
 use Rattle.job_board.specs.declared.status.JobStatus.{JobStatus}
 use Rattle.job_board.specs.SheetCalls.{HasEnded}
 use Rattle.job_board.specs.Hands.{Sheet, SheetHolding}
-use Rattle.job_forms.specs.declared.job.Job.{Job}
 use Rattle.seed_jobs.specs.Crews.{SeesEnd, total_of}
 use Rattle.truncation_list.specs.declared.book.FrontedBook.{FrontedBook}
 use Rattle.truncation_list.specs.Books.{AnswersForFronted}
@@ -23,11 +21,11 @@ use Rattle.job_board.specs.declared.shown.BoardNote.{BoardNote}
 use Rattle.job_board.specs.declared.shown.BoardReply.{BoardReply}
 use Rattle.job_board.specs.declared.shown.BoardReply.TheVariants as reply
 use Rattle.job_board.specs.declared.shown.BoardShown.{BoardShown}
-use Rattle.job_board.specs.Boards.{BoardMayReply, Finishes, HasNumber, Looks, Stops, Submits, TakesNext, book_of, watch_of}
+use Rattle.job_board.specs.Boards.{BoardMayReply, Finishes, HasNumber, Looks, Stops, Submits, TakesNext, book_of}
 use Rattle.job_board.specs.Calls.{BoardHolding, IsBoardTurn, MakesOne}
 use Rattle.job_board.proofs.Watches.{not_zero}
 use Rattle.seed_jobs.specs.Idles.{Idle, Standby}
-use Rattle.seed_jobs.specs.Runs.{AreRun, DoesAfter, HasRunJobs, HasRunOut, IsJobRunByCrew, IsRunnable, IsToldOfEnd, Round, Runs, RunsAll, RunsNext, turns_of}
+use Rattle.seed_jobs.specs.Runs.{AreRun, DoesAfter, HasRunJobs, HasRunOut, IsJobRunByCrew, IsRunnable, Round, RunsAll, RunsNext, turns_of}
 use Rattle.seed_jobs.specs.Turns.{AreBoardTurns, MakesTurns}
 
 -- TURNS, one after the other

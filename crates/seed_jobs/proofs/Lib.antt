@@ -10,3 +10,4 @@ mod Counting
 pub mod History
 mod Pairing
 mod Putting
+mod Sources

@@ -21,6 +21,7 @@ use Rattle.job_board.specs.SheetCalls.{Claims, MeetsNone, Refuses}
 use Rattle.job_board.specs.Hands.{Sheet, SheetHolding, own}
 use Rattle.job_board.specs.Standings.{ending, gaining}
 use Rattle.job_forms.specs.declared.job.Job.{Job}
+use Rattle.source_render.specs.Renders.{Renders}
 use Rattle.truncation_list.specs.declared.book.FrontedBook.{FrontedBook}
 use Rattle.turnstile.specs.Passes.{seen_by}
 use Rattle.seed_jobs.specs.Reports.{Reports, place_if, reporting}
@@ -70,10 +71,10 @@ failed_more = passing_more (λ v. not (is_done v.end))
 unkept_more : (vs : List Visit) (v : Visit) → unkept_of (vs ++ v ∷ []) ≡ unkept_of vs ++ place_if (is_unkept v.end) v.place
 unkept_more = passing_more (λ v. is_unkept v.end)
 
-visits_more : (c : Catalogue) (told : Bool) (job : Job) (seen : FrontedBook) (faults : ℕ) (vs : List Visit) (sees : FrontedBook) (after : ℕ) (v : Visit) → AreVisits c told job seen faults vs sees after → v.seen ≡ sees → v.faults_before ≡ after → IsPassVisit c told job v
-    → AreVisits c told job seen faults (vs ++ v ∷ []) v.sees v.faults_after
-visits_more c told job seen faults [] sees after v are saw counted is = (saw ∙ are.0, counted ∙ are.1, is, (refl, refl))
-visits_more c told job seen faults (x ∷ vs) sees after v are saw counted is = (are.0, are.1, are.2, visits_more c told job x.sees x.faults_after vs sees after v are.3 saw counted is)
+visits_more : (c : Catalogue) (told : Bool) (job : Job) (seen : FrontedBook) (so_far : Renders) (vs : List Visit) (sees : FrontedBook) (after : Renders) (v : Visit) → AreVisits c told job seen so_far vs sees after → v.seen ≡ sees → v.renders_before ≡ after → IsPassVisit c told job v
+    → AreVisits c told job seen so_far (vs ++ v ∷ []) v.sees v.renders_after
+visits_more c told job seen so_far [] sees after v are saw counted is = (saw ∙ are.0, counted ∙ are.1, is, (refl, refl))
+visits_more c told job seen so_far (x ∷ vs) sees after v are saw counted is = (are.0, are.1, are.2, visits_more c told job x.sees x.renders_after vs sees after v are.3 saw counted is)
 
 -- COUNTS
 
@@ -173,7 +174,7 @@ module _ {table : TableId} {c : Catalogue} {job : Job} {sheet : Sheet} {start no
   unkept_counted = unkept_few tally w.so_far.visits w.so_far.counts
 
   -- AT THE END
-  pub works : (t : SheetHolding) → MeetsNone now.hand t → Works c job start (record { hand = t; pass = now.pass; source = now.source; faults = now.faults }) tally
+  pub works : (t : SheetHolding) → MeetsNone now.hand t → Works c job start (record { hand = t; pass = now.pass; source = now.source; renders = now.renders }) tally
   works t none = record {
     end = none.end;
     met_none = not_open now.hand.sheet.places none.found none.end none.why;
@@ -218,13 +219,13 @@ module _ {table : TableId} {c : Catalogue} {job : Job} {sheet : Sheet} {start no
     pub countable : (places : ℕ) → length (own claimed).claimed ≤ claimed.sheet.places → sheet.places ≡ places → places ≤ 10000000 → (tally.places < 10000000) × (tally.done + tally.failed ≤ tally.places) × (tally.unkept ≤ tally.done)
     countable places claims is most = let left = room claims in (omega (arith, left, is, most), omega (arith, counts_add_up), unkept_counted)
 
-    module _ {reported : SheetHolding} {pass : HallPass} {after : ℕ} {end : PlaceEnd} (source : Option ℕ) (went : HasVisited c job place now.faults after now.pass pass end) (told : source ≡ now.source)
+    module _ {reported : SheetHolding} {pass : HallPass} {after : Renders} {end : PlaceEnd} (source : Option ℕ) (went : HasVisited c job place now.renders after now.pass pass end) (told : source ≡ now.source)
         (of : IsPassOf table c pass) (reports : Reports claimed reported place end) where
       abbrev the_visit : Visit
-      the_visit = visit_of place now.pass.book pass.book now.faults after went.gained end
+      the_visit = visit_of place now.pass.book pass.book now.renders after went.gained end
 
       abbrev then_is : JobWorker
-      then_is = record { hand = reported; pass = pass; source = source; faults = after }
+      then_is = record { hand = reported; pass = pass; source = source; renders = after }
 
       is_visit : IsPassVisit c start.pass.told job the_visit
       is_visit = subst (λ (t : Bool). IsPassVisit c t job the_visit) (ap (λ (p : HallPass). p.told) w.so_far.made) went.visit
@@ -237,7 +238,7 @@ module _ {table : TableId} {c : Catalogue} {job : Job} {sheet : Sheet} {start no
             visits = vs ++ the_visit ∷ [];
             made = went.is ∙ ap (λ (p : HallPass). seen_by p pass.book went.gained) w.so_far.made
                 ∙ ap (λ ms. record { table = start.pass.table; charter = start.pass.charter; told = start.pass.told; book = pass.book; made = ms }) (append_assoc start.pass.made (turns_of vs) went.gained ∙ ap (λ ms. start.pass.made ++ ms) (sym (turns_more vs the_visit)));
-            are_visits = visits_more c start.pass.told job start.pass.book start.faults vs now.pass.book now.faults the_visit w.so_far.are_visits refl refl is_visit;
+            are_visits = visits_more c start.pass.told job start.pass.book start.renders vs now.pass.book now.renders the_visit w.so_far.are_visits refl refl is_visit;
             gains = record {
               same_sheet = reports.same_sheet ∙ same_sheet ∙ gains.same_sheet;
               same_number = reports.same_number ∙ same_number ∙ gains.same_number;

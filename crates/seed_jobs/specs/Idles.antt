@@ -5,35 +5,45 @@ use Rattle.cache_hall.specs.Turned.{HallPass, IsPassOf}
 use Rattle.catalog.specs.declared.catalogue.Catalogue.{Catalogue}
 use Rattle.job_board.specs.Calls.{BoardHolding, IsBoardPass}
 use Rattle.seed_jobs.specs.Workers.{JobWorker}
+use Rattle.source_render.specs.Renders.{GivenImage, Renders, renders}
 use Rattle.truncation_list.specs.Books.{AnswersForFronted}
 use Rattle.turnstile.specs.Passes.{seen_by}
 use Rattle.seed_jobs.specs.declared.runner.IdleMember.{IdleMember}
 
--- a member without a job: its pass of the hall, the number that its source tells, and how often that has failed
+-- a member without a job: its pass of the hall, the number that its source tells, and what that has done
 pub record Idle : Type 0 where
   pub pass : HallPass
   pub source : Option ℕ
-  pub faults : ℕ
+  pub renders : Renders
 
 -- a runner: its pass of the board, and its members
 pub record Standby : Type 0 where
   pub board : BoardHolding
   pub idle : List Idle
 
--- by which number a source tells, and how often it has failed
-module _ {K S G : Type 0} (tells : S → Option ℕ) (faults : S → ℕ) where
+-- by which number a source tells, how often it has failed, and what it gave
+module _ {K S G : Type 0} (tells : S → Option ℕ) (faults : S → ℕ) (gave : S → List GivenImage) where
   abbrev pub idle_of : IdleMember K S G → Idle
-  idle_of m = record { pass = m.pass; source = tells m.source; faults = faults m.source }
+  idle_of m = record { pass = m.pass; source = tells m.source; renders = renders (faults m.source) (gave m.source) }
 
   abbrev pub all_idle : List (IdleMember K S G) → List Idle
   all_idle ms = map idle_of ms
+
+-- what each of these has done is what a source has
+module _ {S : Type 0} (faults : S → ℕ) (gave : S → List GivenImage) where
+  pub record IsOfSource (i : Idle) : Type 0 where
+    pub source : S
+    pub has_done : i.renders ≡ renders (faults source) (gave source)
+
+  abbrev pub AreOfSources : List Idle → Type 0
+  AreOfSources idle = All IsOfSource idle
 
 abbrev pub passes_of : List Idle → List HallPass
 passes_of idle = map (λ i. i.pass) idle
 
 -- the worker of a crew without its hand
 abbrev pub without_hand : JobWorker → Idle
-without_hand w = record { pass = w.pass; source = w.source; faults = w.faults }
+without_hand w = record { pass = w.pass; source = w.source; renders = w.renders }
 
 -- its pass is of the hall, and where the hall is told to be sound its source renders the catalogue's pictures
 pub record MayJoin (table : TableId) (c : Catalogue) (i : Idle) : Type 0 where

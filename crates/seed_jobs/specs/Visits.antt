@@ -6,6 +6,7 @@ use Rattle.catalog.specs.declared.catalogue.Catalogue.{Catalogue}
 use Rattle.job_places.specs.Ends.{is_done, is_unkept}
 use Rattle.job_places.specs.Visits.{IsVisit, Visit}
 use Rattle.job_forms.specs.declared.job.Job.{Job}
+use Rattle.source_render.specs.Renders.{Renders}
 use Rattle.truncation_list.specs.declared.book.FrontedBook.{FrontedBook}
 use Rattle.turnstile.specs.declared.view.Made.{Made}
 
@@ -14,10 +15,11 @@ pub record IsPassVisit (c : Catalogue) (told : Bool) (job : Job) (v : Visit) : T
   pub visit : IsVisit c (told ≡ true) job v
   pub turns : AreTurns c told v.seen v.gained v.sees
 
--- one after the other: the pass had seen one book at first and sees the other one at last, and the source's count went from one to another
-abbrev pub AreVisits : Catalogue → Bool → Job → FrontedBook → ℕ → List Visit → FrontedBook → ℕ → Type 0
-AreVisits c told job seen faults [] sees after = (sees ≡ seen) × (after ≡ faults)
-AreVisits c told job seen faults (v ∷ vs) sees after = (v.seen ≡ seen) × (v.faults_before ≡ faults) × IsPassVisit c told job v × AreVisits c told job v.sees v.faults_after vs sees after
+-- one after the other: the pass had seen one book at first and sees the other one at last, and what the source had done went from one to
+-- the other, each visit beginning where the one before had ended
+abbrev pub AreVisits : Catalogue → Bool → Job → FrontedBook → Renders → List Visit → FrontedBook → Renders → Type 0
+AreVisits c told job seen so_far [] sees after = (sees ≡ seen) × (after ≡ so_far)
+AreVisits c told job seen so_far (v ∷ vs) sees after = (v.seen ≡ seen) × (v.renders_before ≡ so_far) × IsPassVisit c told job v × AreVisits c told job v.sees v.renders_after vs sees after
 
 -- WHAT THEY COME TO
 

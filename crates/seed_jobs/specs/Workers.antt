@@ -4,13 +4,14 @@ use Rattle.atomic_table.specs.Seated.{TableId}
 use Rattle.cache_hall.specs.Turned.{HallPass, IsPassOf}
 use Rattle.catalog.specs.declared.catalogue.Catalogue.{Catalogue}
 use Rattle.job_board.specs.Hands.{MayClaim, Sheet, SheetHolding}
+use Rattle.source_render.specs.Renders.{Renders}
 
--- a worker: its hand of the job's sheet, its pass of the hall, the number that its source tells, and how often that has failed
+-- a worker: its hand of the job's sheet, its pass of the hall, the number that its source tells, and what that has done
 pub record JobWorker : Type 0 where
   pub hand : SheetHolding
   pub pass : HallPass
   pub source : Option ℕ
-  pub faults : ℕ
+  pub renders : Renders
 
 -- its pass is of the hall, its hand is of the sheet and has not met None, and where the hall is told to be sound its source renders the
 -- catalogue's pictures

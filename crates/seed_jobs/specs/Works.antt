@@ -29,7 +29,7 @@ pub record HandGains (before after : SheetHolding) (vs : List Visit) (end : Hand
 pub record HasWorkedAtJob (c : Catalogue) (job : Job) (before after : JobWorker) (tally : Tally) (end : HandEnd) : Type 0 where
   pub visits : List Visit
   pub made : after.pass ≡ seen_by before.pass after.pass.book (turns_of visits)
-  pub are_visits : AreVisits c before.pass.told job before.pass.book before.faults visits after.pass.book after.faults
+  pub are_visits : AreVisits c before.pass.told job before.pass.book before.renders visits after.pass.book after.renders
   pub gains : HandGains before.hand after.hand visits end
   pub counts : tally ≡ tally_of (map (λ v. v.end) visits)
   pub same_source : after.source ≡ before.source

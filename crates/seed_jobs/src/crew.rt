@@ -46,10 +46,10 @@ fn work_as<R: Wait, K: Keeper, S: Source, G: Gate>(
     requires fits { Fits hall.now.catalogue job.now }
     requires sheet { sheet.now.places ≡ length (places hall.now.catalogue job.now) }
     requires worker { MayWork hall.now.turnstile.table hall.now.catalogue sheet.now
-        (worker_of S.told S.faults member.old) }
+        (worker_of S.told S.faults S.gave member.old) }
     ensures works { Works hall.now.catalogue job.now
-        (worker_of S.told S.faults member.old)
-        (worker_of S.told S.faults member.new) member.new.tally }
+        (worker_of S.told S.faults S.gave member.old)
+        (worker_of S.told S.faults S.gave member.new) member.new.tally }
 {
     member.tally = work(
         rt,
@@ -76,9 +76,9 @@ fn work_all<R: Threads + Wait + Sync, K: Keeper + Send, S: Source + Send, G: Gat
     requires valid { IsValid hall.now.catalogue }
     requires fits { Fits hall.now.catalogue job.now }
     requires sheet { sheet.now.places ≡ length (places hall.now.catalogue job.now) }
-    requires crew { All (MayWork hall.now.turnstile.table hall.now.catalogue sheet.now) (workers_of S.told S.faults crew.old) }
+    requires crew { All (MayWork hall.now.turnstile.table hall.now.catalogue sheet.now) (workers_of S.told S.faults S.gave crew.old) }
     ensures worked { HaveWorked hall.now.catalogue job.now
-        (workers_of S.told S.faults crew.old) (workers_of S.told S.faults crew.new) (tallies_of crew.new) }
+        (workers_of S.told S.faults S.gave crew.old) (workers_of S.told S.faults S.gave crew.new) (tallies_of crew.new) }
 {
     let threads = crew.len().max(1);
     for_each_mut(
@@ -87,10 +87,10 @@ fn work_all<R: Threads + Wait + Sync, K: Keeper + Send, S: Source + Send, G: Gat
         threads,
         &|_, member: &mut Member<K, S, G>|
             requires { IsValid hall.now.catalogue × Fits hall.now.catalogue job.now × (sheet.now.places ≡ length (places hall.now.catalogue job.now))
-                × MayWork hall.now.turnstile.table hall.now.catalogue sheet.now (worker_of S.told S.faults member.old) }
+                × MayWork hall.now.turnstile.table hall.now.catalogue sheet.now (worker_of S.told S.faults S.gave member.old) }
             ensures { Works hall.entry.now.catalogue job.entry.now
-                (worker_of S.told S.faults member.old)
-                (worker_of S.told S.faults member.new) member.new.tally }
+                (worker_of S.told S.faults S.gave member.old)
+                (worker_of S.told S.faults S.gave member.new) member.new.tally }
         { work_as(rt, alloc, hall, job, sheet, member) },
     );
 }
@@ -111,13 +111,13 @@ pub fn run_seed<R: Threads + Wait + Sync, K: Keeper + Send, S: Source + Send, G:
     requires fits { Fits hall.now.catalogue job.now }
     requires sheet { sheet.now.places ≡ length (places hall.now.catalogue job.now) }
     requires size { length crew.old ≤ 63 }
-    requires crew { All (MayWork hall.now.turnstile.table hall.now.catalogue sheet.now) (workers_of S.told S.faults crew.old) }
+    requires crew { All (MayWork hall.now.turnstile.table hall.now.catalogue sheet.now) (workers_of S.told S.faults S.gave crew.old) }
     ensures worked { HaveWorked hall.now.catalogue job.now
-        (workers_of S.told S.faults crew.old) (workers_of S.told S.faults crew.new) (tallies_of crew.new) }
+        (workers_of S.told S.faults S.gave crew.old) (workers_of S.told S.faults S.gave crew.new) (tallies_of crew.new) }
     ensures total { result.total ≡ total_of (tallies_of crew.new) }
-    ensures shared { AreFresh sheet.now (hands_of (workers_of S.told S.faults crew.old))
-        → AreShared sheet.now (hands_of (workers_of S.told S.faults crew.new)) result.total.places }
-    ensures ended { AreFresh sheet.now (hands_of (workers_of S.told S.faults crew.old))
+    ensures shared { AreFresh sheet.now (hands_of (workers_of S.told S.faults S.gave crew.old))
+        → AreShared sheet.now (hands_of (workers_of S.told S.faults S.gave crew.new)) result.total.places }
+    ensures ended { AreFresh sheet.now (hands_of (workers_of S.told S.faults S.gave crew.old))
         → IfSome result.watch (λ w. SeesEnd sheet.now result.total.done result.total.failed result.total.unkept w) }
     ensures none { IfNone result.watch (crew.old ≡ []) }
 {

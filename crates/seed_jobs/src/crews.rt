@@ -33,8 +33,8 @@ fn assemble<K: Keeper, S: Source, G: JobGate>(
     requires enough { length hands.items ≤ length idle.old.items }
     requires none { crew.old.items ≡ [] }
     requires room { length hands.items ≤ vec_capacity crew.old }
-    ensures hands { hands_of (workers_of S.told S.faults crew.new.items) ≡ hands.items }
-    ensures members { all_idle S.told S.faults idle.old.items ≡ all_idle S.told S.faults idle.new.items ++ reverse (map without_hand (workers_of S.told S.faults crew.new.items)) }
+    ensures hands { hands_of (workers_of S.told S.faults S.gave crew.new.items) ≡ hands.items }
+    ensures members { all_idle S.told S.faults S.gave idle.old.items ≡ all_idle S.told S.faults S.gave idle.new.items ++ reverse (map without_hand (workers_of S.told S.faults S.gave crew.new.items)) }
     ensures room { (vec_capacity crew.new ≡ vec_capacity crew.old) × (vec_capacity idle.new ≡ vec_capacity idle.old) }
 {
     'assembling: for hand in hands {
@@ -60,7 +60,7 @@ fn disband<K: Keeper, S: Source, G: JobGate>(
 )
     requires room { length idle.old.items + length crew.old.items ≤ vec_capacity idle.old }
     ensures none { crew.new.items ≡ [] }
-    ensures members { all_idle S.told S.faults idle.new.items ≡ all_idle S.told S.faults idle.old.items ++ reverse (map without_hand (workers_of S.told S.faults crew.old.items)) }
+    ensures members { all_idle S.told S.faults S.gave idle.new.items ≡ all_idle S.told S.faults S.gave idle.old.items ++ reverse (map without_hand (workers_of S.told S.faults S.gave crew.old.items)) }
     ensures room { (vec_capacity crew.new ≡ vec_capacity crew.old) × (vec_capacity idle.new ≡ vec_capacity idle.old) }
 {
     'disbanding: while let Some(member) = crew.pop() {
@@ -91,11 +91,11 @@ fn crew_works<R: Threads + Wait + Sync, K: Keeper + Send, S: Source + Send, G: J
     requires sheet { sheet.now.places ≡ length (places hall.now.catalogue job.now) }
     requires size { length crew.old.items ≤ 8 }
     requires some { 0 < length crew.old.items }
-    requires crew { All (MayWork hall.now.turnstile.table hall.now.catalogue sheet.now) (workers_of S.told S.faults crew.old.items) }
-    requires fresh { AreFresh sheet.now (hands_of (workers_of S.told S.faults crew.old.items)) }
+    requires crew { All (MayWork hall.now.turnstile.table hall.now.catalogue sheet.now) (workers_of S.told S.faults S.gave crew.old.items) }
+    requires fresh { AreFresh sheet.now (hands_of (workers_of S.told S.faults S.gave crew.old.items)) }
     ensures worked { HaveWorked hall.now.catalogue job.now
-        (workers_of S.told S.faults crew.old.items) (workers_of S.told S.faults crew.new.items) (tallies_of crew.new.items) }
-    ensures shared { AreShared sheet.now (hands_of (workers_of S.told S.faults crew.new.items)) (total_of (tallies_of crew.new.items)).places }
+        (workers_of S.told S.faults S.gave crew.old.items) (workers_of S.told S.faults S.gave crew.new.items) (tallies_of crew.new.items) }
+    ensures shared { AreShared sheet.now (hands_of (workers_of S.told S.faults S.gave crew.new.items)) (total_of (tallies_of crew.new.items)).places }
     ensures ended { SeesEnd sheet.now (total_of (tallies_of crew.new.items)).done (total_of (tallies_of crew.new.items)).failed (total_of (tallies_of crew.new.items)).unkept result }
     ensures room { vec_capacity crew.new ≡ vec_capacity crew.old }
 {
@@ -127,12 +127,12 @@ pub(crate) fn run_by_crew<
     requires some { 0 < length hands.items }
     requires few { length hands.items ≤ 8 }
     requires fresh { AreFresh sheet.now hands.items }
-    requires idle { All (MayJoin hall.now.turnstile.table hall.now.catalogue) (all_idle S.told S.faults idle.old.items) }
+    requires idle { All (MayJoin hall.now.turnstile.table hall.now.catalogue) (all_idle S.told S.faults S.gave idle.old.items) }
     requires members { (length idle.old.items ≡ 8) × (8 ≤ vec_capacity idle.old) }
     requires room { (crew.old.items ≡ []) × (vec_capacity crew.old ≡ 8) }
-    ensures run { (r : IsJobRunByCrew hall.now.catalogue job.now sheet.now hands.items (all_idle S.told S.faults idle.old.items) (all_idle S.told S.faults idle.new.items))
+    ensures run { (r : IsJobRunByCrew hall.now.catalogue job.now sheet.now hands.items (all_idle S.told S.faults S.gave idle.old.items) (all_idle S.told S.faults S.gave idle.new.items))
         × SeesEnd sheet.now (total_of r.tallies).done (total_of r.tallies).failed (total_of r.tallies).unkept result }
-    ensures idle { All (MayJoin hall.now.turnstile.table hall.now.catalogue) (all_idle S.told S.faults idle.new.items) }
+    ensures idle { All (MayJoin hall.now.turnstile.table hall.now.catalogue) (all_idle S.told S.faults S.gave idle.new.items) }
     ensures members { (length idle.new.items ≡ 8) × (8 ≤ vec_capacity idle.new) }
     ensures room { (crew.new.items ≡ []) × (vec_capacity crew.new ≡ 8) }
 {

@@ -19,9 +19,9 @@ fn hear<K: Keeper, S: Source, G: Gate>(
     members: &mut [Member<K, S, G>],
 ) -> Hand
     requires own { hand.old.sheet ≡ sheet.now }
-    requires theirs { AreOf sheet.now (hands_of (workers_of S.told S.faults members.old)) }
+    requires theirs { AreOf sheet.now (hands_of (workers_of S.told S.faults S.gave members.old)) }
     ensures same { members.new ≡ members.old }
-    ensures heard { HasHeard hand.old hand.new (hands_of (workers_of S.told S.faults members.old)) }
+    ensures heard { HasHeard hand.old hand.new (hands_of (workers_of S.told S.faults S.gave members.old)) }
     ensures watch { result ≡ watching sheet.now hand.new.seen }
 {
     'hearing: for i in 0..members.len() {
@@ -37,14 +37,14 @@ fn gather_in<K: Keeper, S: Source, G: Gate>(
     first: &mut Member<K, S, G>,
     others: &mut [Member<K, S, G>],
 ) -> Hand
-    requires own { AreOf sheet.now (first.old.hand ∷ hands_of (workers_of S.told S.faults others.old)) }
-    ensures alike { IsAlike (worker_of S.told S.faults first.old) (worker_of S.told S.faults first.new) }
+    requires own { AreOf sheet.now (first.old.hand ∷ hands_of (workers_of S.told S.faults S.gave others.old)) }
+    ensures alike { IsAlike (worker_of S.told S.faults S.gave first.old) (worker_of S.told S.faults S.gave first.new) }
     ensures tally { first.new.tally ≡ first.old.tally }
     ensures same { others.new ≡ others.old }
-    ensures shared { AreAll sheet.now (first.old.hand ∷ hands_of (workers_of S.told S.faults others.old))
-        → AreShared sheet.now (first.new.hand ∷ hands_of (workers_of S.told S.faults others.old)) (claimed_by (first.new.hand ∷ hands_of (workers_of S.told S.faults others.old))) }
-    ensures ended { AreAll sheet.now (first.old.hand ∷ hands_of (workers_of S.told S.faults others.old))
-        → SeesEnd sheet.now (done_by (first.new.hand ∷ hands_of (workers_of S.told S.faults others.old))) (failed_by (first.new.hand ∷ hands_of (workers_of S.told S.faults others.old))) (unkept_by (first.new.hand ∷ hands_of (workers_of S.told S.faults others.old))) result }
+    ensures shared { AreAll sheet.now (first.old.hand ∷ hands_of (workers_of S.told S.faults S.gave others.old))
+        → AreShared sheet.now (first.new.hand ∷ hands_of (workers_of S.told S.faults S.gave others.old)) (claimed_by (first.new.hand ∷ hands_of (workers_of S.told S.faults S.gave others.old))) }
+    ensures ended { AreAll sheet.now (first.old.hand ∷ hands_of (workers_of S.told S.faults S.gave others.old))
+        → SeesEnd sheet.now (done_by (first.new.hand ∷ hands_of (workers_of S.told S.faults S.gave others.old))) (failed_by (first.new.hand ∷ hands_of (workers_of S.told S.faults S.gave others.old))) (unkept_by (first.new.hand ∷ hands_of (workers_of S.told S.faults S.gave others.old))) result }
 {
     let watch = hear(sheet, &mut first.hand, others);
     first.hand.laws();
@@ -56,13 +56,13 @@ pub(crate) fn gather<K: Keeper, S: Source, G: Gate>(
     sheet: &JobSheet,
     crew: &mut [Member<K, S, G>],
 ) -> Option<Hand>
-    requires own { AreOf sheet.now (hands_of (workers_of S.told S.faults crew.old)) }
-    ensures alike { AreAlike (workers_of S.told S.faults crew.old) (workers_of S.told S.faults crew.new) }
+    requires own { AreOf sheet.now (hands_of (workers_of S.told S.faults S.gave crew.old)) }
+    ensures alike { AreAlike (workers_of S.told S.faults S.gave crew.old) (workers_of S.told S.faults S.gave crew.new) }
     ensures tallies { tallies_of crew.new ≡ tallies_of crew.old }
-    ensures shared { AreAll sheet.now (hands_of (workers_of S.told S.faults crew.old))
-        → AreShared sheet.now (hands_of (workers_of S.told S.faults crew.new)) (claimed_by (hands_of (workers_of S.told S.faults crew.new))) }
-    ensures ended { AreAll sheet.now (hands_of (workers_of S.told S.faults crew.old))
-        → IfSome result (λ w. SeesEnd sheet.now (done_by (hands_of (workers_of S.told S.faults crew.new))) (failed_by (hands_of (workers_of S.told S.faults crew.new))) (unkept_by (hands_of (workers_of S.told S.faults crew.new))) w) }
+    ensures shared { AreAll sheet.now (hands_of (workers_of S.told S.faults S.gave crew.old))
+        → AreShared sheet.now (hands_of (workers_of S.told S.faults S.gave crew.new)) (claimed_by (hands_of (workers_of S.told S.faults S.gave crew.new))) }
+    ensures ended { AreAll sheet.now (hands_of (workers_of S.told S.faults S.gave crew.old))
+        → IfSome result (λ w. SeesEnd sheet.now (done_by (hands_of (workers_of S.told S.faults S.gave crew.new))) (failed_by (hands_of (workers_of S.told S.faults S.gave crew.new))) (unkept_by (hands_of (workers_of S.told S.faults S.gave crew.new))) w) }
     ensures none { IfNone result (crew.old ≡ []) }
 {
     let Some((first, others)) = crew.split_first_mut() else {

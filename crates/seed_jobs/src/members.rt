@@ -24,9 +24,9 @@ pub fn idle_members<K: Keeper, S: Source, G: JobGate>(
     requires sources { length sources.items ≡ length passes.items }
     requires gates { length gates.items ≡ length passes.items }
     ensures each { IfOk result (λ ms. length ms.items ≡ length passes.items) }
-    ensures first { (p : HallPass) → All (λ q. q ≡ p) passes.items → IfOk result (λ ms. All (λ i. i.pass ≡ p) (all_idle S.told S.faults ms.items)) }
+    ensures first { (p : HallPass) → All (λ q. q ≡ p) passes.items → IfOk result (λ ms. All (λ i. i.pass ≡ p) (all_idle S.told S.faults S.gave ms.items)) }
     ensures join { (table : TableId) (c : Catalogue) (told : Bool) → All (IsPassOf table c) passes.items → All (λ p. p.told ≡ told) passes.items
-        → All (λ s. told ≡ true → S.told s ≡ Some c.source) sources.items → IfOk result (λ ms. All (MayJoin table c) (all_idle S.told S.faults ms.items)) }
+        → All (λ s. told ≡ true → S.told s ≡ Some c.source) sources.items → IfOk result (λ ms. All (MayJoin table c) (all_idle S.told S.faults S.gave ms.items)) }
 {
     let mut passes = passes;
     let mut sources = sources;

@@ -38,7 +38,7 @@ impl<K: Keeper, S: Source, G: JobGate> Model for Runner<K, S, G> {
 
     ghost Value = { Standby };
 
-    ghost view = { λ r. record { board = r.board; idle = all_idle S.told S.faults r.idle.items } };
+    ghost view = { λ r. record { board = r.board; idle = all_idle S.told S.faults S.gave r.idle.items } };
 
     ghost invariant = { λ r. (length r.idle.items ≡ 8) × (8 ≤ vec_capacity r.idle) × (r.crew.items ≡ []) × (vec_capacity r.crew ≡ 8) };
 }
@@ -49,7 +49,7 @@ fn put_passes<K: Keeper, S: Source, G: JobGate>(
     passes: Vec<Pass<CabinetChest<K>>>,
 ) -> Vec<Pass<CabinetChest<K>>>
     requires room { length passes.items + length idle.items ≤ vec_capacity passes }
-    ensures items { result.items ≡ passes.items ++ reverse (passes_of (all_idle S.told S.faults idle.items)) }
+    ensures items { result.items ≡ passes.items ++ reverse (passes_of (all_idle S.told S.faults S.gave idle.items)) }
     ensures count { length result.items ≡ length passes.items + length idle.items }
     ensures room { vec_capacity result ≡ vec_capacity passes }
 {
@@ -64,7 +64,7 @@ fn put_passes<K: Keeper, S: Source, G: JobGate>(
 impl<K: Keeper, S: Source, G: JobGate> Runner<K, S, G> {
     ghost use Rattle.std.specs.Prelude.{IfOk, length, reverse, vec_capacity, [], ◌+◌, ◌++◌, ◌∷◌, ◌≡◌, ◌≤◌};
     ghost use Rattle.job_board.specs.Calls.{IsBoardPass};
-    ghost use Rattle.seed_jobs.specs.Idles.{HasHeard, all_idle, passes_of};
+    ghost use Rattle.seed_jobs.specs.Idles.{AreOfSources, HasHeard, all_idle, passes_of};
     ghost use Rattle.truncation_list.specs.Books.{AnswersForFronted};
     ghost use Rattle.turnstile.specs.Passes.{seen_by};
 
@@ -76,7 +76,7 @@ impl<K: Keeper, S: Source, G: JobGate> Runner<K, S, G> {
     ) -> Result<Runner<K, S, G>, AllocError>
         requires members { length idle.items ≡ MEMBERS }
         ensures board { IfOk result (λ r. r.board ≡ board) }
-        ensures idle { IfOk result (λ r. r.idle ≡ all_idle S.told S.faults idle.items) }
+        ensures idle { IfOk result (λ r. r.idle ≡ all_idle S.told S.faults S.gave idle.items) }
     {
         let crew = Vec::with_capacity(alloc, MEMBERS)?;
         Ok(Runner { board, idle, crew })
@@ -94,10 +94,13 @@ impl<K: Keeper, S: Source, G: JobGate> Runner<K, S, G> {
         board.turnstile.meet(&mut self.board, other);
     }
 
-    /// Puts the passes of its members to others in a list that has room for them, that of the last member first, and ends with that.
+    /// Puts the passes of its members to others in a list that has room for them, that of the last member first, and ends with that. What
+    /// contracts saw its members' sources do is what their sources have done.
+    #[tactic(auto, using(crate::proofs::Sources::all_of_sources))]
     pub fn into_passes(self, passes: Vec<Pass<CabinetChest<K>>>) -> Vec<Pass<CabinetChest<K>>>
         requires room { length passes.items + MEMBERS ≤ vec_capacity passes }
         ensures items { result.items ≡ passes.items ++ reverse (passes_of self.idle) }
+        ensures sources { AreOfSources S.faults S.gave self.idle }
         ensures count { length result.items ≡ length passes.items + MEMBERS }
         ensures room { vec_capacity result ≡ vec_capacity passes }
     {

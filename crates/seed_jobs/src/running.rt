@@ -51,12 +51,12 @@ fn run_posted<R: Threads + Wait + Sync, K: Keeper + Send, S: Source + Send, G: J
     requires valid { IsValid hall.now.catalogue }
     requires of { IsBoardPass board.now.turnstile.table pass.old }
     requires number { HasNumber pass.old.book.front posted }
-    requires idle { All (MayJoin hall.now.turnstile.table hall.now.catalogue) (all_idle S.told S.faults idle.old.items) }
+    requires idle { All (MayJoin hall.now.turnstile.table hall.now.catalogue) (all_idle S.told S.faults S.gave idle.old.items) }
     requires members { (length idle.old.items ≡ 8) × (8 ≤ vec_capacity idle.old) }
     requires room { (crew.old.items ≡ []) × (vec_capacity crew.old ≡ 8) }
     ensures of { IsBoardPass board.now.turnstile.table pass.new }
-    ensures runs { HasRunOut hall.now.catalogue posted pass.old pass.new (all_idle S.told S.faults idle.old.items) (all_idle S.told S.faults idle.new.items) }
-    ensures idle { All (MayJoin hall.now.turnstile.table hall.now.catalogue) (all_idle S.told S.faults idle.new.items) }
+    ensures runs { HasRunOut hall.now.catalogue posted pass.old pass.new (all_idle S.told S.faults S.gave idle.old.items) (all_idle S.told S.faults S.gave idle.new.items) }
+    ensures idle { All (MayJoin hall.now.turnstile.table hall.now.catalogue) (all_idle S.told S.faults S.gave idle.new.items) }
     ensures members { (length idle.new.items ≡ 8) × (8 ≤ vec_capacity idle.new) }
     ensures room { (crew.new.items ≡ []) × (vec_capacity crew.new ≡ 8) }
 {

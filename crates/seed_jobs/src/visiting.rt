@@ -5,6 +5,7 @@ ghost use Rattle.catalog.specs.Valid.{IsValid};
 ghost use Rattle.job_forms.specs.Job.{Fits};
 ghost use Rattle.job_forms.specs.Places.{places};
 ghost use Rattle.seed_jobs.specs.Visited.{HasVisited};
+ghost use Rattle.source_render.specs.Renders.{renders};
 
 use cabinet::Keeper;
 use cabinet_chest::CabinetChest;
@@ -31,7 +32,7 @@ pub(crate) fn visit<R: Wait, K: Keeper, S: Source>(
     requires fits { Fits hall.now.catalogue job.now }
     requires place { place < length (places hall.now.catalogue job.now) }
     requires source { pass.old.told ≡ true → S.told source.old ≡ Some hall.now.catalogue.source }
-    ensures visited { HasVisited hall.now.catalogue job.now place (S.faults source.old) (S.faults source.new) pass.old pass.new result }
+    ensures visited { HasVisited hall.now.catalogue job.now place (renders (S.faults source.old) (S.gave source.old)) (renders (S.faults source.new) (S.gave source.new)) pass.old pass.new result }
     ensures of { IsPassOf hall.now.turnstile.table hall.now.catalogue pass.new }
     ensures told { S.told source.new ≡ S.told source.old }
 {

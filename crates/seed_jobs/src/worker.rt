@@ -5,6 +5,7 @@ ghost use Rattle.job_forms.specs.Job.{Fits};
 ghost use Rattle.job_forms.specs.Places.{places};
 ghost use Rattle.seed_jobs.specs.Workers.{MayWork};
 ghost use Rattle.seed_jobs.specs.Works.{Works};
+ghost use Rattle.source_render.specs.Renders.{renders};
 
 use crate::gate::Gate;
 use crate::reporting::report;
@@ -38,10 +39,10 @@ pub fn work<R: Wait, K: Keeper, S: Source, G: Gate>(
     requires fits { Fits hall.now.catalogue job.now }
     requires sheet { sheet.now.places ≡ length (places hall.now.catalogue job.now) }
     requires worker { MayWork hall.now.turnstile.table hall.now.catalogue sheet.now
-        (record { hand = hand.old; pass = pass.old; source = S.told source.old; faults = S.faults source.old }) }
+        (record { hand = hand.old; pass = pass.old; source = S.told source.old; renders = renders (S.faults source.old) (S.gave source.old) }) }
     ensures works { Works hall.now.catalogue job.now
-        (record { hand = hand.old; pass = pass.old; source = S.told source.old; faults = S.faults source.old })
-        (record { hand = hand.new; pass = pass.new; source = S.told source.new; faults = S.faults source.new }) result }
+        (record { hand = hand.old; pass = pass.old; source = S.told source.old; renders = renders (S.faults source.old) (S.gave source.old) })
+        (record { hand = hand.new; pass = pass.new; source = S.told source.new; renders = renders (S.faults source.new) (S.gave source.new) }) result }
 {
     let mut tally = Tally::new();
     'working: while let Some(place) = sheet.claim(hand) {

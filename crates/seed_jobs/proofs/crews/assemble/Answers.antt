@@ -12,8 +12,8 @@ assembling-init g c =
     record {
       enough = omega (arith, many, enough);
       room = omega (arith, many, none, room);
-      hands = none_handed g.S.Source.told g.S.Source.faults c.args.crew.now.items _ _ c.requires.none rest;
-      whole = none_swapped g.S.Source.told g.S.Source.faults c.args.idle.now.items c.args.crew.now.items c.requires.none;
+      hands = none_handed g.S.Source.told g.S.Source.faults g.S.Source.gave c.args.crew.now.items _ _ c.requires.none rest;
+      whole = none_swapped g.S.Source.told g.S.Source.faults g.S.Source.gave c.args.idle.now.items c.args.crew.now.items c.requires.none;
       same = (refl, refl);
     }
 
@@ -32,7 +32,7 @@ assembling-preserved g c =
     record {
       enough = omega (arith, left, idle, enough);
       room = omega (arith, left, crew, capacity, room);
-      hands = handed g.S.Source.told g.S.Source.faults c.assembling.crew.items c.push_reserved.new.self.items _ c.assembling.hand-iterator.rest.items c.next.new.self.rest.items _ pushed next i.hands;
-      whole = sym (swapped g.S.Source.told g.S.Source.faults c.pop.new.self.items c.assembling.idle.items c.push_reserved.new.self.items c.assembling.crew.items c.in-Some-pop.field-0 _ pushed popped refl) ∙ i.whole;
+      hands = handed g.S.Source.told g.S.Source.faults g.S.Source.gave c.assembling.crew.items c.push_reserved.new.self.items _ c.assembling.hand-iterator.rest.items c.next.new.self.rest.items _ pushed next i.hands;
+      whole = sym (swapped g.S.Source.told g.S.Source.faults g.S.Source.gave c.pop.new.self.items c.assembling.idle.items c.push_reserved.new.self.items c.assembling.crew.items c.in-Some-pop.field-0 _ pushed popped refl) ∙ i.whole;
       same = (c.push_reserved.ensures.capacity ∙ i.same.0, c.pop.ensures.capacity ∙ i.same.1);
     }

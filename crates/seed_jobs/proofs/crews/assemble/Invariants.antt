@@ -9,7 +9,7 @@ abbrev pub invariant-assembling : goal.invariant-assembling
 invariant-assembling g l = record {
   enough : length l.hand-iterator.rest.items ≤ length l.idle.items;
   room : length l.crew.items + length l.hand-iterator.rest.items ≤ vec_capacity l.crew;
-  hands : hands_of (workers_of g.S.Source.told g.S.Source.faults l.crew.items) ++ l.hand-iterator.rest.items ≡ l.fn.hands.items;
-  whole : all_idle g.S.Source.told g.S.Source.faults l.idle.items ++ back g.S.Source.told g.S.Source.faults l.crew.items ≡ all_idle g.S.Source.told g.S.Source.faults l.initial.idle.items;
+  hands : hands_of (workers_of g.S.Source.told g.S.Source.faults g.S.Source.gave l.crew.items) ++ l.hand-iterator.rest.items ≡ l.fn.hands.items;
+  whole : all_idle g.S.Source.told g.S.Source.faults g.S.Source.gave l.idle.items ++ back g.S.Source.told g.S.Source.faults g.S.Source.gave l.crew.items ≡ all_idle g.S.Source.told g.S.Source.faults g.S.Source.gave l.initial.idle.items;
   same : (vec_capacity l.crew ≡ vec_capacity l.initial.crew) × (vec_capacity l.idle ≡ vec_capacity l.initial.idle);
 }

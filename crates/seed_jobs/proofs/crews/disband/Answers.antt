@@ -13,6 +13,6 @@ disbanding-preserved g c =
     let capacity = c.push_reserved.ensures.capacity in
     record {
       room = omega (arith, crew, idle, capacity, room);
-      whole = swapped g.S.Source.told g.S.Source.faults c.disbanding.idle.items c.push_reserved.new.self.items c.disbanding.crew.items c.pop.new.self.items _ c.in-Some.member popped pushed refl ∙ i.whole;
+      whole = swapped g.S.Source.told g.S.Source.faults g.S.Source.gave c.disbanding.idle.items c.push_reserved.new.self.items c.disbanding.crew.items c.pop.new.self.items _ c.in-Some.member popped pushed refl ∙ i.whole;
       same = (c.pop.ensures.capacity ∙ i.same.0, c.push_reserved.ensures.capacity ∙ i.same.1);
     }

@@ -6,8 +6,8 @@ use Rattle.seed_jobs.proofs.crews.disband.Given as goal
 abbrev pub invariant-disbanding : goal.invariant-disbanding
 invariant-disbanding g l = record {
   room : length l.idle.items + length l.crew.items ≤ vec_capacity l.idle;
-  whole : all_idle g.S.Source.told g.S.Source.faults l.idle.items ++ back g.S.Source.told g.S.Source.faults l.crew.items
-      ≡ all_idle g.S.Source.told g.S.Source.faults l.initial.idle.items ++ back g.S.Source.told g.S.Source.faults l.initial.crew.items;
+  whole : all_idle g.S.Source.told g.S.Source.faults g.S.Source.gave l.idle.items ++ back g.S.Source.told g.S.Source.faults g.S.Source.gave l.crew.items
+      ≡ all_idle g.S.Source.told g.S.Source.faults g.S.Source.gave l.initial.idle.items ++ back g.S.Source.told g.S.Source.faults g.S.Source.gave l.initial.crew.items;
   same : (vec_capacity l.crew ≡ vec_capacity l.initial.crew) × (vec_capacity l.idle ≡ vec_capacity l.initial.idle);
 }
 

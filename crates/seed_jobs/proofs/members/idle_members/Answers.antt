@@ -9,8 +9,8 @@ pairing-init g c =
       sources = c.requires.sources;
       gates = c.requires.gates;
       some = omega arith;
-      first = λ p alike. (alike, none_alike g.S.Source.told g.S.Source.faults p c.new-members.result.items (search rules));
-      of = λ table cat told of_hall marks renders. record { of_hall = of_hall; marks = marks; renders = renders; join = none_join g.S.Source.told g.S.Source.faults table cat told c.new-members.result.items (search rules) };
+      first = λ p alike. (alike, none_alike g.S.Source.told g.S.Source.faults g.S.Source.gave p c.new-members.result.items (search rules));
+      of = λ table cat told of_hall marks renders. record { of_hall = of_hall; marks = marks; renders = renders; join = none_join g.S.Source.told g.S.Source.faults g.S.Source.gave table cat told c.new-members.result.items (search rules) };
     }
 
 pub pairing-preserved : goal.pairing-preserved
@@ -27,8 +27,8 @@ pairing-preserved g c =
       sources = omega (arith, passes, sources, i_sources);
       gates = omega (arith, passes, gates, i_gates);
       some = omega (arith, passes, members, some);
-      first = λ p alike. one_alike g.S.Source.told g.S.Source.faults p c.pairing.passes.items c.pop.new.self.items c.pairing.members.items c.push.new.self.items _ c.in-Some.ensures.items c.in_ok-push.ensures.items (i.first p alike);
-      of = λ table cat told of_hall marks renders. one_paired g.S.Source.told g.S.Source.faults table cat told c.pairing.passes.items c.pop.new.self.items c.pairing.sources.items c.pop-in-Some.new.self.items c.pairing.members.items c.push.new.self.items _ c.in-Some.ensures.items c.in-Some-pop.ensures.items c.in_ok-push.ensures.items (i.of table cat told of_hall marks renders);
+      first = λ p alike. one_alike g.S.Source.told g.S.Source.faults g.S.Source.gave p c.pairing.passes.items c.pop.new.self.items c.pairing.members.items c.push.new.self.items _ c.in-Some.ensures.items c.in_ok-push.ensures.items (i.first p alike);
+      of = λ table cat told of_hall marks renders. one_paired g.S.Source.told g.S.Source.faults g.S.Source.gave table cat told c.pairing.passes.items c.pop.new.self.items c.pairing.sources.items c.pop-in-Some.new.self.items c.pairing.members.items c.push.new.self.items _ c.in-Some.ensures.items c.in-Some-pop.ensures.items c.in_ok-push.ensures.items (i.of table cat told of_hall marks renders);
     }
 
 pub returns-clause-join : goal.returns-clause-join

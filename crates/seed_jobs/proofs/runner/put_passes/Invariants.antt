@@ -5,7 +5,7 @@ use Rattle.seed_jobs.proofs.runner.put_passes.Given as goal
 
 abbrev pub invariant-putting : goal.invariant-putting
 invariant-putting g l = record {
-  items : l.passes.items ++ reverse (passes_of (all_idle g.S.Source.told g.S.Source.faults l.idle.items)) ≡ l.fn.passes.items ++ reverse (passes_of (all_idle g.S.Source.told g.S.Source.faults l.fn.idle.items));
+  items : l.passes.items ++ reverse (passes_of (all_idle g.S.Source.told g.S.Source.faults g.S.Source.gave l.idle.items)) ≡ l.fn.passes.items ++ reverse (passes_of (all_idle g.S.Source.told g.S.Source.faults g.S.Source.gave l.fn.idle.items));
   count : length l.passes.items + length l.idle.items ≡ length l.fn.passes.items + length l.fn.idle.items;
   room : vec_capacity l.passes ≡ vec_capacity l.fn.passes;
 }

@@ -1,4 +1,4 @@
-use Rattle.seed_jobs.proofs.History.{left_out, run_out}
+use Rattle.seed_jobs.proofs.History.{run_out}
 use Rattle.seed_jobs.proofs.running.run_posted.Goals as goal
 
 pub returns-clause-runs : goal.returns-clause-runs

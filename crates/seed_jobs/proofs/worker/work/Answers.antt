@@ -1,4 +1,3 @@
-use Rattle.std.proofs.Common.{sym}
 use Rattle.seed_jobs.proofs.Working.{at_first, countable, goes_on, works}
 use Rattle.seed_jobs.proofs.worker.work.Goals as goal
 
