@@ -36,6 +36,7 @@ use Rattle.job_requests.specs.Texts.{statuses_text}
 use Rattle.job_board.specs.declared.status.JobStatus.{JobStatus}
 use Rattle.job_forms.specs.declared.job.Job.{Job}
 use Rattle.matrix_geometry.specs.declared.address.Address.{Address}
+use Rattle.source_render.specs.Renders.{Renders}
 use Rattle.truncation_list.specs.declared.book.FrontedBook.{FrontedBook}
 use Rattle.truncation_list.specs.declared.cover.Cover.{Cover}
 use Rattle.turnstile.specs.declared.view.Made.{Made}
@@ -122,7 +123,7 @@ module _ (c : Catalogue) (recipes : RecipeBook) (told : Bool) (e : HallExchange)
   caused_as : (o p : Outcome) → o ≡ p → IsCaused c recipes told e p → IsCaused c recipes told e o
   caused_as o p is h = subst (IsCaused c recipes told e) (sym is) h
 
-  got_caused : (a : Address) → AsksFor c recipes e.message (request.Tile a) → (o : Outcome) → (o ≡ outcome.SourceFailed → Rose e.renders_before e.renders_after) → (result : Result Tile GetFault) → IsGot c told a e.seen e.gained result → o ≡ outcome_of_get result
+  got_caused : (a : Address) → AsksFor c recipes e.message (request.Tile a) → (o : Outcome) → (o ≡ outcome.SourceFailed → Rose e.renders_before.failures e.renders_after.failures) → (result : Result Tile GetFault) → IsGot c told a e.seen e.gained result → o ≡ outcome_of_get result
       → IsCaused c recipes told e o
   got_caused a asks o rose (Ok tile) got is = caused_as o (outcome.Tile tile.hit tile.number tile.bytes) is (a, asks, got)
   got_caused a asks o rose (Err fault.SourceFault) got is = caused_as o outcome.SourceFailed is (inl (a, asks, got, rose is))
@@ -155,7 +156,7 @@ module _ (c : Catalogue) (recipes : RecipeBook) (told : Bool) (e : HallExchange)
     usage_caused asks o (inl h) = caused_as o (outcome.Usage h.0) h.2 (asks, h.1)
     usage_caused asks o (inr h) = caused_as o (outcome.Plain plain.NoMemory) h.1 tt
 
-    request_caused : (r : Request) → AsksFor c recipes e.message r → (o : Outcome) → (o ≡ outcome.SourceFailed → Rose e.renders_before e.renders_after) → IsRequestServed c told e.seen r e.gained o → IsCaused c recipes told e o
+    request_caused : (r : Request) → AsksFor c recipes e.message r → (o : Outcome) → (o ≡ outcome.SourceFailed → Rose e.renders_before.failures e.renders_after.failures) → IsRequestServed c told e.seen r e.gained o → IsCaused c recipes told e o
     request_caused (request.Tile a) asks o rose h = got_caused a asks o rose h.0 h.1 h.2
     request_caused request.Capabilities asks o rose h = caused_as o outcome.Document h.1 asks
     request_caused (request.Refused code locator) asks o rose h = caused_as o (outcome.Refused code locator) h.1 (inl asks)
@@ -214,8 +215,8 @@ module _ (c : Catalogue) (recipes : RecipeBook) (told : Bool) (e : HallExchange)
 
   -- BELOW /composites/
 
-  module _ (rose : e.came_to ≡ outcome.SourceFailed → Rose e.renders_before e.renders_after) where
-    composition_caused : (number : ℕ) (place : TilePlace) → AsksForComposite c recipes e.message (composite_request.Composite number place) → (result : Result Composed ComposeFault) → IsComposed c recipes told e.seen number place e.gained result
+  module _ (rose : e.came_to ≡ outcome.SourceFailed → Rose e.renders_before.failures e.renders_after.failures) where
+    composition_caused : (number : ℕ) (place : TilePlace) → AsksForComposite c recipes e.message (composite_request.Composite number place) → (result : Result Composed ComposeFault) → IsComposed c e.renders_after.gave recipes told e.seen number place e.gained result
         → e.came_to ≡ outcome_of_composition result → IsCaused c recipes told e e.came_to
     composition_caused number place asks (Ok composed) h is =
         caused_as e.came_to (outcome_of_composition (Ok composed)) is (record { came_to = composed; composition = record { number = number; place = place; asks = asks; composed = h }; numbered = refl; is_text = refl })
@@ -223,7 +224,7 @@ module _ (c : Catalogue) (recipes : RecipeBook) (told : Bool) (e : HallExchange)
     composition_caused number place asks (Err compose_fault.Spent) h is = caused_as e.came_to (outcome.Plain plain.Spent) is (inr (record { number = number; place = place; asks = asks; composed = h }))
     composition_caused number place asks (Err compose_fault.OutOfMemory) h is = caused_as e.came_to (outcome.Plain plain.NoMemory) is tt
 
-    composite_caused : (r : CompositeRequest) → AsksForComposite c recipes e.message r → IsCompositeMessageServed c recipes told e.seen r e.gained e.came_to → IsCaused c recipes told e e.came_to
+    composite_caused : (r : CompositeRequest) → AsksForComposite c recipes e.message r → IsCompositeMessageServed c e.renders_after.gave recipes told e.seen r e.gained e.came_to → IsCaused c recipes told e e.came_to
     composite_caused (composite_request.Composite number place) asks (inl h) = composition_caused number place asks h.0 h.1 h.2
     composite_caused (composite_request.Refused code locator) asks (inl h) = caused_as e.came_to (outcome.Refused code locator) h.1 (inr asks)
     composite_caused composite_request.NotFound asks (inl h) = caused_as e.came_to (outcome.Plain plain.NotFound) h.1 (inr (inr (inr asks)))
@@ -232,18 +233,18 @@ module _ (c : Catalogue) (recipes : RecipeBook) (told : Bool) (e : HallExchange)
 
   -- A MESSAGE
 
-  module _ (turns : AreTurns c told e.seen e.gained e.sees) (rose : e.came_to ≡ outcome.SourceFailed → Rose e.renders_before e.renders_after) where
+  module _ (turns : AreTurns c told e.seen e.gained e.sees) (rose : e.came_to ≡ outcome.SourceFailed → Rose e.renders_before.failures e.renders_after.failures) where
     other_caused : (r : Option Request) → job_request_for c e.message ≡ None → composite_request_for c recipes e.message ≡ None → IsOtherMessageServed c told e.seen e.message r e.gained e.came_to → IsCaused c recipes told e e.came_to
     other_caused None other none h = caused_as e.came_to (outcome.Plain plain.NoMemory) h.1 tt
     other_caused (Some r) other none h = request_caused turns r (record { no_job = other; no_composite = none; is = sym h.0 }) e.came_to rose h.1
 
     cache_caused : (asked : Option CompositeRequest) → job_request_for c e.message ≡ None → composite_request_for c recipes e.message ≡ asked
-        → MatchOption asked (IsOtherMessageServed c told e.seen e.message e.request e.gained e.came_to) (λ r. IsCompositeMessageServed c recipes told e.seen r e.gained e.came_to × (e.request ≡ None)) → IsCaused c recipes told e e.came_to
+        → MatchOption asked (IsOtherMessageServed c told e.seen e.message e.request e.gained e.came_to) (λ r. IsCompositeMessageServed c e.renders_after.gave recipes told e.seen r e.gained e.came_to × (e.request ≡ None)) → IsCaused c recipes told e e.came_to
     cache_caused None other is h = other_caused e.request other is h
     cache_caused (Some r) other is h = composite_caused rose r (record { no_job = other; is = is }) h.0
 
     message_caused : (asked : Option JobRequest) → job_request_for c e.message ≡ asked
-        → MatchOption asked (IsCacheMessageServed c recipes told e.seen e.message e.request e.gained e.came_to × (e.board_after ≡ e.board_before)) (λ r. IsJobMessageServed c r e.gained e.board_before e.board_after e.came_to × (e.request ≡ None)) → IsCaused c recipes told e e.came_to
+        → MatchOption asked (IsCacheMessageServed c e.renders_after.gave recipes told e.seen e.message e.request e.gained e.came_to × (e.board_after ≡ e.board_before)) (λ r. IsJobMessageServed c r e.gained e.board_before e.board_after e.came_to × (e.request ≡ None)) → IsCaused c recipes told e e.came_to
     message_caused None is h = cache_caused (composite_request_for c recipes e.message) is refl h.0
     message_caused (Some r) is h = job_message_caused r is e.came_to h.0
 
@@ -279,7 +280,7 @@ module _ (c : Catalogue) (recipes : RecipeBook) (told : Bool) (e : HallExchange)
     no_composition result h = no_composite (composite_request.Composite h.number h.place) h.asks
 
     given_of : (o : Outcome) → outcome_told e ≡ o → IsCaused c recipes told e o
-        → IsGiven c told a e ⊎ ((outcome_told e ≡ outcome.Plain plain.NoMemory) ⊎ (((outcome_told e ≡ outcome.SourceFailed) × Rose e.renders_before e.renders_after) ⊎ ((outcome_told e ≡ outcome.Plain plain.Spent) × HasMetSpent a e.gained)))
+        → IsGiven c told a e ⊎ ((outcome_told e ≡ outcome.Plain plain.NoMemory) ⊎ (((outcome_told e ≡ outcome.SourceFailed) × Rose e.renders_before.failures e.renders_after.failures) ⊎ ((outcome_told e ≡ outcome.Plain plain.Spent) × HasMetSpent a e.gained)))
     given_of (outcome.Tile hit k bytes) is h =
         let tile : Tile = record { hit = hit; number = k; bytes = bytes } in
         inl (record { tile = tile; is = is; got = subst (λ (b : Address). HasGot c told b e.seen e.gained tile) (one_address h.0 a (one_request (request.Tile h.0) h.1)) h.2 })
@@ -322,7 +323,7 @@ has_answer c recipes told e h =
     let cause = caused_told c recipes told e e.left e.came_to (message_caused c recipes told e h.turns h.cause (job_request_for c e.message) refl h.served) in
     record { tiles = λ a asks. given_of c recipes told e a asks (outcome_told e) refl cause; cause = cause }
 
-pub have_answers : (c : Catalogue) (recipes : RecipeBook) (told : Bool) (seen : FrontedBook) (board : BoardHolding) (renders : ℕ) (es : List HallExchange) (sees : FrontedBook) (board_after : BoardHolding) (after : ℕ)
+pub have_answers : (c : Catalogue) (recipes : RecipeBook) (told : Bool) (seen : FrontedBook) (board : BoardHolding) (renders : Renders) (es : List HallExchange) (sees : FrontedBook) (board_after : BoardHolding) (after : Renders)
     → AreExchanges c recipes told seen board renders es sees board_after after → AllByRecursion (HasAnswer c recipes told) es
 have_answers c recipes told seen board renders [] sees board_after after are = tt
 have_answers c recipes told seen board renders (e ∷ es) sees board_after after are = (has_answer c recipes told e are.3, have_answers c recipes told e.sees e.board_after e.renders_after es sees board_after after are.4)

@@ -17,6 +17,7 @@ use Rattle.cabinet_chest.specs.declared.shown.Note.{Note}
 use Rattle.cache_hall.specs.Turned.{HallPass}
 use Rattle.cache_hall.specs.Gained.{gains_none}
 use Rattle.turnstile.specs.declared.view.Made.{Made}
+use Rattle.source_render.specs.Renders.{GivenImage, Renders}
 use Rattle.tile_requests.specs.declared.outcome.Outcome.{Outcome}
 use Rattle.tile_requests.specs.declared.outcome.Outcome.TheVariants as outcome
 use Rattle.tile_requests.specs.declared.outcome.Plain.TheVariants as plain
@@ -75,27 +76,28 @@ unfolding composite_request_for
 asked_of_composites c recipes parts m method target = rw (method, target) refl
 
 -- a message was served by a pass that stood so, by what it asks of jobs, and by what it asks for below /composites/
-abbrev IsServedAs : Catalogue → RecipeBook → HallPass → Message → Option Request → List (Made Note) → BoardHolding → BoardHolding → Outcome → Option JobRequest → Option CompositeRequest → Type 0
-IsServedAs c recipes p m request gained board board_after o of_jobs of_composites =
+abbrev IsServedAs : Catalogue → List GivenImage → RecipeBook → HallPass → Message → Option Request → List (Made Note) → BoardHolding → BoardHolding → Outcome → Option JobRequest → Option CompositeRequest → Type 0
+IsServedAs c gave recipes p m request gained board board_after o of_jobs of_composites =
     MatchOption of_jobs
-    (MatchOption of_composites (IsOtherMessageServed c p.told p.book m request gained o) (λ r. IsCompositeMessageServed c recipes p.told p.book r gained o × (request ≡ None)) × (board_after ≡ board))
+    (MatchOption of_composites (IsOtherMessageServed c p.told p.book m request gained o) (λ r. IsCompositeMessageServed c gave recipes p.told p.book r gained o × (request ≡ None)) × (board_after ≡ board))
     (λ r. IsJobMessageServed c r gained board board_after o × (request ≡ None))
 
-unread_as : (c : Catalogue) (recipes : RecipeBook) (p : HallPass) (m : Message) (board : BoardHolding) (of_jobs : Option JobRequest) (of_composites : Option CompositeRequest) → IsServedAs c recipes p m None [] board board (outcome.Plain plain.NoMemory) of_jobs of_composites
-unread_as c recipes p m board None None = ((refl, refl), refl)
-unread_as c recipes p m board None (Some r) = ((inr (refl, refl), refl), refl)
-unread_as c recipes p m board (Some r) of_composites = (inr ((refl, refl), refl), refl)
+unread_as : (c : Catalogue) (gave : List GivenImage) (recipes : RecipeBook) (p : HallPass) (m : Message) (board : BoardHolding) (of_jobs : Option JobRequest) (of_composites : Option CompositeRequest) → IsServedAs c gave recipes p m None [] board board (outcome.Plain plain.NoMemory) of_jobs of_composites
+unread_as c gave recipes p m board None None = ((refl, refl), refl)
+unread_as c gave recipes p m board None (Some r) = ((inr (refl, refl), refl), refl)
+unread_as c gave recipes p m board (Some r) of_composites = (inr ((refl, refl), refl), refl)
 
 -- REQUESTS AND MESSAGES
 
-module _ (c : Catalogue) (recipes : RecipeBook) (before after : ℕ) (p : HallPass) where
+module _ (c : Catalogue) (recipes : RecipeBook) (before after : Renders) (p : HallPass) where
   -- no memory was left to read the message
   pub unread : (m : Message) (board : BoardHolding) → ServesOverHall c recipes before after m p p board board (outcome.Plain plain.NoMemory)
   unread m board = record {
     gained = [];
     gains = gains_none c p;
     request = None;
-    served = unread_as c recipes p m board (job_request_for c m) (composite_request_for c recipes m);
+    served = unread_as c after.gave recipes p m board (job_request_for c m) (composite_request_for c recipes m);
+    from_source = tt;
     cause = λ e. absurd (cc);
   }
 
@@ -105,7 +107,8 @@ module _ (c : Catalogue) (recipes : RecipeBook) (before after : ℕ) (p : HallPa
     gained = [];
     gains = gains_none c p;
     request = None;
-    served = subst (λ (j : Option JobRequest). IsServedAs c recipes p m None [] board board_after o j (composite_request_for c recipes m)) asks (inl (refl, h), refl);
+    served = subst (λ (j : Option JobRequest). IsServedAs c after.gave recipes p m None [] board board_after o j (composite_request_for c recipes m)) asks (inl (refl, h), refl);
+    from_source = tt;
     cause = λ e. absurd (no_source_failed c board board_after o r h e);
   }
 
@@ -117,8 +120,9 @@ module _ (c : Catalogue) (recipes : RecipeBook) (before after : ℕ) (p : HallPa
     gains = h.gains;
     request = None;
     served =
-        subst (λ (j : Option JobRequest). IsServedAs c recipes p m None h.gained board board o j (composite_request_for c recipes m)) other
-        (subst (λ (x : Option CompositeRequest). IsServedAs c recipes p m None h.gained board board o None x) asks ((inl h.served, refl), refl));
+        subst (λ (j : Option JobRequest). IsServedAs c after.gave recipes p m None h.gained board board o j (composite_request_for c recipes m)) other
+        (subst (λ (x : Option CompositeRequest). IsServedAs c after.gave recipes p m None h.gained board board o None x) asks ((inl h.served, refl), refl));
+    from_source = h.from_source;
     cause = h.cause;
   }
 
@@ -130,7 +134,8 @@ module _ (c : Catalogue) (recipes : RecipeBook) (before after : ℕ) (p : HallPa
     gains = h.gains;
     request = Some r;
     served =
-        subst (λ (j : Option JobRequest). IsServedAs c recipes p m (Some r) h.gained board board o j (composite_request_for c recipes m)) other
-        (subst (λ (x : Option CompositeRequest). IsServedAs c recipes p m (Some r) h.gained board board o None x) none ((is, h.served), refl));
+        subst (λ (j : Option JobRequest). IsServedAs c after.gave recipes p m (Some r) h.gained board board o j (composite_request_for c recipes m)) other
+        (subst (λ (x : Option CompositeRequest). IsServedAs c after.gave recipes p m (Some r) h.gained board board o None x) none ((is, h.served), refl));
+    from_source = h.from_source;
     cause = h.cause;
   }

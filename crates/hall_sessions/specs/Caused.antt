@@ -91,7 +91,7 @@ pub record IsGiven (c : Catalogue) (told : Bool) (a : Address) (e : HallExchange
 abbrev pub TilesAreGiven : Catalogue → Bool → HallExchange → Type 0
 TilesAreGiven c told e =
     (a : Address) → AsksForTile c e.message a
-    → IsGiven c told a e ⊎ ((outcome_told e ≡ outcome.Plain plain.NoMemory) ⊎ (((outcome_told e ≡ outcome.SourceFailed) × Rose e.renders_before e.renders_after) ⊎ ((outcome_told e ≡ outcome.Plain plain.Spent) × HasMetSpent a e.gained)))
+    → IsGiven c told a e ⊎ ((outcome_told e ≡ outcome.Plain plain.NoMemory) ⊎ (((outcome_told e ≡ outcome.SourceFailed) × Rose e.renders_before.failures e.renders_after.failures) ⊎ ((outcome_told e ≡ outcome.Plain plain.Spent) × HasMetSpent a e.gained)))
 
 -- WHO CHANGES WHAT IS KEPT
 
@@ -171,7 +171,7 @@ pub record HasComposition (c : Catalogue) (recipes : RecipeBook) (told : Bool) (
   pub number : ℕ
   pub place : TilePlace
   pub asks : AsksForComposite c recipes e.message (composite_request.Composite number place)
-  pub composed : IsComposed c recipes told e.seen number place e.gained result
+  pub composed : IsComposed c e.renders_after.gave recipes told e.seen number place e.gained result
 
 -- the composition came to these numbers and this text
 pub record IsComposite (c : Catalogue) (recipes : RecipeBook) (told : Bool) (e : HallExchange) (numbers : ArrayVec ℕ) (text : List ℕ) : Type 0 where
@@ -188,8 +188,8 @@ IsCaused c recipes told e (outcome.Refused code locator) = AsksFor c recipes e.m
 IsCaused c recipes told e (outcome.Plain plain.NotFound) = AsksFor c recipes e.message request.NotFound ⊎ (AsksOfJobs c e.message job_request.NotFound ⊎ (HasNoJob c e ⊎ AsksForComposite c recipes e.message composite_request.NotFound))
 IsCaused c recipes told e (outcome.Plain plain.WrongMethod) = AsksFor c recipes e.message request.WrongMethod ⊎ (AsksOfJobs c e.message job_request.WrongMethod ⊎ AsksForComposite c recipes e.message composite_request.WrongMethod)
 IsCaused c recipes told e outcome.SourceFailed =
-    ((a : Address) × AsksFor c recipes e.message (request.Tile a) × HasAbandoned a e.gained × Rose e.renders_before e.renders_after)
-    ⊎ (HasComposition c recipes told e (Err compose_fault.SourceFault) × Rose e.renders_before e.renders_after)
+    ((a : Address) × AsksFor c recipes e.message (request.Tile a) × HasAbandoned a e.gained × Rose e.renders_before.failures e.renders_after.failures)
+    ⊎ (HasComposition c recipes told e (Err compose_fault.SourceFault) × Rose e.renders_before.failures e.renders_after.failures)
 IsCaused c recipes told e (outcome.Plain plain.Spent) = ((a : Address) × AsksFor c recipes e.message (request.Tile a) × HasMetSpent a e.gained) ⊎ HasComposition c recipes told e (Err compose_fault.Spent)
 IsCaused c recipes told e (outcome.Usage text) = AsksFor c recipes e.message request.Usage × IsCounted c e.gained text
 IsCaused c recipes told e (outcome.Cut k) = HasCutTurn c recipes e (cut.Done k)

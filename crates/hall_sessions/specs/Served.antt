@@ -1,5 +1,5 @@
 -- What a message comes to over a hall and a board: the turns that are made for it, and the outcome that they are answered by.
-use Rattle.std.specs.Prelude.{ℕ, ◌≡◌, ◌≤◌, ◌⊎◌, Bool, true, List, [], Option, Some, None, MatchOption}
+use Rattle.std.specs.Prelude.{◌≡◌, ◌⊎◌, Bool, true, List, [], Option, Some, None, MatchOption}
 use Rattle.cabinet_chest.specs.declared.shown.Note.{Note}
 use Rattle.catalog.specs.declared.catalogue.Catalogue.{Catalogue}
 use Rattle.composite_requests.specs.declared.request.CompositeRequest.{CompositeRequest}
@@ -12,9 +12,11 @@ use Rattle.job_requests.specs.Served.{ServesJob}
 use Rattle.layer_recipes.specs.declared.book.RecipeBook.{RecipeBook}
 use Rattle.truncation_list.specs.declared.book.FrontedBook.{FrontedBook}
 use Rattle.turnstile.specs.declared.view.Made.{Made}
+use Rattle.cache_access.specs.Sourced.{AreFromSource}
 use Rattle.cache_hall.specs.Turned.{GainsTurns, HallPass}
 use Rattle.base.specs.Causes.{Rose}
 use Rattle.sessions.specs.Exchanges.{ServerStanding}
+use Rattle.source_render.specs.Renders.{GivenImage, GoesOn, Renders}
 use Rattle.tile_requests.specs.declared.outcome.Outcome.{Outcome}
 use Rattle.tile_requests.specs.declared.outcome.Outcome.TheVariants as outcome
 use Rattle.tile_requests.specs.declared.outcome.Plain.TheVariants as plain
@@ -39,8 +41,8 @@ abbrev pub IsJobMessageServed : Catalogue → JobRequest → List (Made Note) �
 IsJobMessageServed c r gained board_before board_after o = ((gained ≡ []) × ServesJob c r board_before board_after o) ⊎ (IsUnread gained o × (board_after ≡ board_before))
 
 -- one for a composite, which asks for this: by the turns of a composition, unless no memory was left to read it
-abbrev pub IsCompositeMessageServed : Catalogue → RecipeBook → Bool → FrontedBook → CompositeRequest → List (Made Note) → Outcome → Type 0
-IsCompositeMessageServed c recipes told seen r gained o = IsCompositeServed c recipes told seen r gained o ⊎ IsUnread gained o
+abbrev pub IsCompositeMessageServed : Catalogue → List GivenImage → RecipeBook → Bool → FrontedBook → CompositeRequest → List (Made Note) → Outcome → Type 0
+IsCompositeMessageServed c gave recipes told seen r gained o = IsCompositeServed c gave recipes told seen r gained o ⊎ IsUnread gained o
 
 -- any other: what it asks for by the table of paths is served, unless no memory was left to read it
 abbrev pub IsOtherMessageServed : Catalogue → Bool → FrontedBook → Message → Option Request → List (Made Note) → Outcome → Type 0
@@ -48,23 +50,25 @@ IsOtherMessageServed c told seen m None gained o = IsUnread gained o
 IsOtherMessageServed c told seen m (Some r) gained o = (r ≡ request_for c m) × IsRequestServed c told seen r gained o
 
 -- one that isn't for jobs: one for a composite, if the server's recipes have it so, or any other
-abbrev pub IsCacheMessageServed : Catalogue → RecipeBook → Bool → FrontedBook → Message → Option Request → List (Made Note) → Outcome → Type 0
-IsCacheMessageServed c recipes told seen m request gained o =
-    MatchOption (composite_request_for c recipes m) (IsOtherMessageServed c told seen m request gained o) (λ r. IsCompositeMessageServed c recipes told seen r gained o × (request ≡ None))
+abbrev pub IsCacheMessageServed : Catalogue → List GivenImage → RecipeBook → Bool → FrontedBook → Message → Option Request → List (Made Note) → Outcome → Type 0
+IsCacheMessageServed c gave recipes told seen m request gained o =
+    MatchOption (composite_request_for c recipes m) (IsOtherMessageServed c told seen m request gained o) (λ r. IsCompositeMessageServed c gave recipes told seen r gained o × (request ≡ None))
 
 -- one for jobs asks nothing of the cabinet, and any other asks nothing of the board
-abbrev pub IsMessageServed : Catalogue → RecipeBook → Bool → FrontedBook → Message → Option Request → List (Made Note) → BoardHolding → BoardHolding → Outcome → Type 0
-IsMessageServed c recipes told seen m request gained board_before board_after o =
-    MatchOption (job_request_for c m) (IsCacheMessageServed c recipes told seen m request gained o × (board_after ≡ board_before)) (λ r. IsJobMessageServed c r gained board_before board_after o × (request ≡ None))
+abbrev pub IsMessageServed : Catalogue → List GivenImage → RecipeBook → Bool → FrontedBook → Message → Option Request → List (Made Note) → BoardHolding → BoardHolding → Outcome → Type 0
+IsMessageServed c gave recipes told seen m request gained board_before board_after o =
+    MatchOption (job_request_for c m) (IsCacheMessageServed c gave recipes told seen m request gained o × (board_after ≡ board_before)) (λ r. IsJobMessageServed c r gained board_before board_after o × (request ≡ None))
 
--- a message was served over a hall and a board, while its source went from one count of faults to another: it failed only where that rose
-pub record ServesOverHall (c : Catalogue) (recipes : RecipeBook) (renders_before renders_after : ℕ) (m : Message) (before after : HallPass) (board_before board_after : BoardHolding) (o : Outcome) : Type 0 where
+-- a message was served over a hall and a board, while its source went from what it had done to this: it failed only where its count rose, and
+-- each blob that was handed in is cut out of what it has given
+pub record ServesOverHall (c : Catalogue) (recipes : RecipeBook) (renders_before renders_after : Renders) (m : Message) (before after : HallPass) (board_before board_after : BoardHolding) (o : Outcome) : Type 0 where
   pub gained : List (Made Note)
   pub gains : GainsTurns c before after gained
   pub request : Option Request
-  pub served : IsMessageServed c recipes before.told before.book m request gained board_before board_after o
-  pub cause : o ≡ outcome.SourceFailed → Rose renders_before renders_after
+  pub served : IsMessageServed c renders_after.gave recipes before.told before.book m request gained board_before board_after o
+  pub from_source : AreFromSource c renders_after.gave gained
+  pub cause : o ≡ outcome.SourceFailed → Rose renders_before.failures renders_after.failures
 
--- the same from one standing of a hall and a board to another, while the source's count doesn't fall
+-- the same from one standing of a hall and a board to another, while the source goes on
 abbrev pub ServesLater : Catalogue → RecipeBook → Message → Outcome → ServerStanding HallPass BoardHolding → ServerStanding HallPass BoardHolding → Type 0
-ServesLater c recipes m o before after = ServesOverHall c recipes before.failures after.failures m before.cache after.cache before.jobs after.jobs o × (before.failures ≤ after.failures)
+ServesLater c recipes m o before after = ServesOverHall c recipes before.renders after.renders m before.cache after.cache before.jobs after.jobs o × GoesOn before.renders after.renders

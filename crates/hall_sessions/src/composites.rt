@@ -6,6 +6,7 @@ ghost use Rattle.composite_requests.specs.Routes.{IsOf};
 ghost use Rattle.hall_sessions.specs.Composites.{ServesComposite, ServesComposition, outcome_of_composition};
 ghost use Rattle.layer_recipes.specs.Books.{IsBookOf};
 ghost use Rattle.layer_recipes.specs.OfCatalogue.{IsPlaceIn, IsRecipeOf};
+ghost use Rattle.source_render.specs.Renders.{StaysGiven, renders};
 
 use arrayvec::ArrayVec;
 use cabinet::Keeper;
@@ -65,10 +66,11 @@ fn serve_composition<R: Wait, K: Keeper, S: Source>(
     requires grid { place.grid ≡ recipe.now.grid }
     requires place { IsPlaceIn hall.now.catalogue place }
     requires source { pass.old.told ≡ true → S.told source.old ≡ Some hall.now.catalogue.source }
-    ensures serves { ServesComposition hall.now.catalogue place recipe.now.parts.items (S.faults source.old) (S.faults source.new) pass.old pass.new result }
+    ensures serves { ServesComposition hall.now.catalogue place recipe.now.parts.items (renders (S.faults source.old) (S.gave source.old)) (renders (S.faults source.new) (S.gave source.new)) pass.old pass.new result }
     ensures of { IsPassOf hall.now.turnstile.table hall.now.catalogue pass.new }
     ensures later { S.faults source.old ≤ S.faults source.new }
     ensures told { S.told source.new ≡ S.told source.old }
+    ensures grows { StaysGiven (S.gave source.old) (S.gave source.new) }
 {
     let TilePlace { z, row, col, .. } = place;
     let composition = compose(rt, alloc, hall, pass, source, recipe, z, row, col);
@@ -101,10 +103,11 @@ pub fn serve_composite<R: Wait, K: Keeper, S: Source>(
     requires recipes { IsBookOf hall.now.catalogue recipes.now }
     requires asks { IsOf hall.now.catalogue recipes.now request }
     requires source { pass.old.told ≡ true → S.told source.old ≡ Some hall.now.catalogue.source }
-    ensures serves { ServesComposite hall.now.catalogue recipes.now (S.faults source.old) (S.faults source.new) request pass.old pass.new result }
+    ensures serves { ServesComposite hall.now.catalogue recipes.now (renders (S.faults source.old) (S.gave source.old)) (renders (S.faults source.new) (S.gave source.new)) request pass.old pass.new result }
     ensures of { IsPassOf hall.now.turnstile.table hall.now.catalogue pass.new }
     ensures later { S.faults source.old ≤ S.faults source.new }
     ensures told { S.told source.new ≡ S.told source.old }
+    ensures grows { StaysGiven (S.gave source.old) (S.gave source.new) }
 {
     match request {
         CompositeRequest::Composite(number, place) => {

@@ -5,6 +5,7 @@
 //! they were answered is the outcome of its response (`specs/Served.antt`): for a tile those of a get, for a truncation and an
 //! expiry one, and for what is kept one for each line; for a composite those of a get for each part (`specs/Composites.antt`). For a message
 //! for jobs the turns are the board's, by its own pass.
+//! Each blob that the turns hand in to the cache is cut out of an image that the source gave for its ticket (`specs/Exchanges.antt`).
 //! Who asks for a tile gets it, but for the causes that `specs/Caused.antt` lists, and each other answer has its cause there.
 //! Stands on sessions, cache_hall, tile_service, job_requests, composite_hall and composite_requests.
 #![tactic(auto)]

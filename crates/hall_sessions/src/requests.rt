@@ -6,6 +6,7 @@ ghost use Rattle.hall_sessions.specs.Requested.{ServesRequest};
 ghost use Rattle.hall_sessions.specs.Served.{ServesOverHall};
 ghost use Rattle.job_board.specs.Calls.{IsBoardPass};
 ghost use Rattle.layer_recipes.specs.Books.{IsBookOf};
+ghost use Rattle.source_render.specs.Renders.{StaysGiven, renders};
 ghost use Rattle.tile_requests.specs.Requests.{IsOf};
 
 use crate::composites::serve_composite;
@@ -36,10 +37,11 @@ fn serve_request<R: Wait, K: Keeper, S: Source>(
     requires valid { IsValid hall.now.catalogue }
     requires asks { IsOf hall.now.catalogue request }
     requires source { pass.old.told ≡ true → S.told source.old ≡ Some hall.now.catalogue.source }
-    ensures serves { ServesRequest hall.now.catalogue (S.faults source.old) (S.faults source.new) request pass.old pass.new result }
+    ensures serves { ServesRequest hall.now.catalogue (renders (S.faults source.old) (S.gave source.old)) (renders (S.faults source.new) (S.gave source.new)) request pass.old pass.new result }
     ensures of { IsPassOf hall.now.turnstile.table hall.now.catalogue pass.new }
     ensures later { S.faults source.old ≤ S.faults source.new }
     ensures told { S.told source.new ≡ S.told source.old }
+    ensures grows { StaysGiven (S.gave source.old) (S.gave source.new) }
 {
     answer(&Shared { rt, hall }, alloc, pass, source, request)
 }
@@ -60,11 +62,12 @@ pub fn serve<R: Wait, K: Keeper, S: Source>(
     requires source { pass.old.told ≡ true → S.told source.old ≡ Some world.now.hall.catalogue.source }
     requires board { IsBoardPass world.now.board.turnstile.table board.old }
     requires recipes { IsBookOf world.now.hall.catalogue world.now.recipes }
-    ensures serves { ServesOverHall world.now.hall.catalogue world.now.recipes (S.faults source.old) (S.faults source.new) message.now pass.old pass.new board.old board.new result }
+    ensures serves { ServesOverHall world.now.hall.catalogue world.now.recipes (renders (S.faults source.old) (S.gave source.old)) (renders (S.faults source.new) (S.gave source.new)) message.now pass.old pass.new board.old board.new result }
     ensures of { IsPassOf world.now.hall.turnstile.table world.now.hall.catalogue pass.new }
     ensures board { IsBoardPass world.now.board.turnstile.table board.new }
     ensures later { S.faults source.old ≤ S.faults source.new }
     ensures told { S.told source.new ≡ S.told source.old }
+    ensures grows { StaysGiven (S.gave source.old) (S.gave source.new) }
 {
     let parts = MessageRef::of(message);
     let catalogue = &world.hall.catalogue;

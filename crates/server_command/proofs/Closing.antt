@@ -14,7 +14,7 @@ use Rattle.server_command.specs.Opened.{IsOpenedFromDisk, ServerDisk}
 use Rattle.server_command.specs.Recipes.{Recites}
 use Rattle.server_command.specs.Served.{HasEndedAs, HasOpenedAndServed, ServerChange, listened, service_of}
 
-module _ {L D : Type 0} (h : ServerChange L) (d : ServerDisk D) (c : Catalogue) (document : List ℕ) (book : RecipeBook) (table board : TableId) (opened : State) where
+module _ {L S D : Type 0} (h : ServerChange L S) (d : ServerDisk D) (c : Catalogue) (document : List ℕ) (book : RecipeBook) (table board : TableId) (opened : State) where
   abbrev served_over : IsOpenedFromDisk d c h.clock opened → HasServedOver (service_of h c document book table board opened) (listened h) → HasOpenedAndServed h d c document book
   served_over is o = record { opened = opened; is_opened = is; table = table; board = board; over = o }
 

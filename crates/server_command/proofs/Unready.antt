@@ -20,7 +20,7 @@ use Rattle.server_command.specs.declared.ends.ServerEnd.TheVariants as end
 use Rattle.server_command.specs.declared.recipes.UnreadRecipes.{UnreadRecipes}
 use Rattle.server_command.specs.declared.recipes.UnreadRecipes.TheVariants as unread
 
-module _ {L D : Type 0} (h : ServerChange L) (d : ServerDisk D) (CapabilitiesStay RecipesStay ListenerStays : Type 0) (stays : ListenerStays) where
+module _ {L S D : Type 0} (h : ServerChange L S) (d : ServerDisk D) (CapabilitiesStay RecipesStay ListenerStays : Type 0) (stays : ListenerStays) where
   of_refusal : (r : Unconfigured) → IsRefused h.catalogue h.capabilities CapabilitiesStay r → RecipesStay → HasEnded h d CapabilitiesStay RecipesStay ListenerStays (end.Ended (status_of_refusal r))
   of_refusal unconfigured.ReadFault is same = (inl (is, same), stays)
   of_refusal unconfigured.TooLong is same = (inl (is, same), stays)

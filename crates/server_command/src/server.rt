@@ -63,6 +63,7 @@ where
           clock = clock;
           connections = connections;
           reading = record { left = N.L.left; taken = N.L.taken; reads = N.L.ByteSource.faults; writes = N.L.ByteSink.faults };
+          sources = record { faults = S.faults; gave = S.gave };
           given_before = N.given listener.old;
           given_after = N.given listener.new;
           accepts = counts (N.faults listener.old) (N.faults listener.new);

@@ -36,7 +36,8 @@ use Rattle.turnstile.specs.Line.{AreInLine, InLine, IsBefore}
 use Rattle.turnstile.specs.declared.view.Made.{Made}
 use Rattle.turnstile.proofs.Notes.{the_one}
 use Rattle.server_workers.specs.Between.{AreNewer, GivesRender, IsAskFor, IsCutOf}
-use Rattle.server_workers.specs.Stints.{AreHeld, HeldSession, IsStint, Service, Stint, passes_of}
+use Rattle.source_render.specs.Renders.{Renders}
+use Rattle.server_workers.specs.Stints.{AreHeld, HeldSession, IsStint, Service, Stint, done_by, passes_of}
 
 -- what is in a list is its first thing, or after it
 first_or_later : {A : Type 0} (x y : A) (xs : List A) → Contains (x ∷ xs) y → (x ≡ y) ⊎ Contains xs y
@@ -65,7 +66,7 @@ module _ (c : Catalogue) where
   of_turns told seen left [] turns m (k, lt, _) = absurd (omega (arith, lt))
   of_turns told seen left (x ∷ xs) turns m at = ⊎_elim (λ (e : x ≡ m). subst (IsTurnAt c) e record { told = told; seen = seen; is = turns.0 }) (λ (d : Contains xs m). of_turns told (left_by x) left xs turns.1 m d) (first_or_later x m xs at)
 
-  of_exchanges : (book : RecipeBook) (told : Bool) (seen : FrontedBook) (board : BoardHolding) (renders : ℕ) (es : List HallExchange) (sees : FrontedBook) (board_after : BoardHolding) (after : ℕ) → AreExchanges c book told seen board renders es sees board_after after
+  of_exchanges : (book : RecipeBook) (told : Bool) (seen : FrontedBook) (board : BoardHolding) (renders : Renders) (es : List HallExchange) (sees : FrontedBook) (board_after : BoardHolding) (after : Renders) → AreExchanges c book told seen board renders es sees board_after after
       → (m : Made Note) → Contains (turns_of es) m → IsTurnAt c m
   of_exchanges book told seen board renders [] sees board_after after are m (k, lt, _) = absurd (omega (arith, lt))
   of_exchanges book told seen board renders (e ∷ es) sees board_after after are m at =
@@ -79,8 +80,8 @@ module _ (c : Catalogue) where
       ⊎_elim (λ (old : Contains before.made m). had m old) (λ (d : Contains gained m). new m d) (Contains-append_cases before.made gained m (subst (λ (ms : List (Made Note)). Contains ms m) is at))
 
 -- the turns of a stint
-module _ {L : Type 0} (s : Service L) where
-  of_sessions : (pass : HallPass) (board : BoardHolding) (renders : ℕ) (hs : List (HeldSession L)) (left : HallPass) (board_after : BoardHolding) (after : ℕ) → AreHeld s pass board renders hs left board_after after → HasTurnsAt s.catalogue pass → HasTurnsAt s.catalogue left
+module _ {L S : Type 0} (s : Service L S) where
+  of_sessions : (pass : HallPass) (board : BoardHolding) (renders : Renders) (hs : List (HeldSession L)) (left : HallPass) (board_after : BoardHolding) (after : Renders) → AreHeld s pass board renders hs left board_after after → HasTurnsAt s.catalogue pass → HasTurnsAt s.catalogue left
   of_sessions pass board renders [] left board_after after held had = subst (HasTurnsAt s.catalogue) (sym held.0) had
   of_sessions pass board renders (h ∷ hs) left board_after after held had =
       let session = held.3 in
@@ -91,7 +92,7 @@ module _ {L : Type 0} (s : Service L) where
   pub of_stints : (ts : List (Stint L)) → s.first.made ≡ [] → AllByRecursion (IsStint s) ts → (p : HallPass) → Contains (passes_of ts) p → HasTurnsAt s.catalogue p
   of_stints [] none are p (k, lt, _) = absurd (omega (arith, lt))
   of_stints (t ∷ ts) none are p among = ⊎_elim
-      (λ (e : t.pass ≡ p). subst (HasTurnsAt s.catalogue) e (of_sessions s.first are.0.board_before are.0.renders_before t.sessions t.pass t.board are.0.renders_after are.0.held (no_turns s.catalogue s.first none)))
+      (λ (e : t.pass ≡ p). subst (HasTurnsAt s.catalogue) e (of_sessions s.first are.0.board_before (done_by s.sources are.0.source_before) t.sessions t.pass t.board (done_by s.sources are.0.source_after) are.0.held (no_turns s.catalogue s.first none)))
       (λ (later : Contains (passes_of ts) p). of_stints ts none are.1 p later) (first_or_later t.pass p (passes_of ts) among)
 
 -- NEWER, OR BEFORE

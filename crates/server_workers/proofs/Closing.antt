@@ -31,7 +31,7 @@ of_each P stints after upkeep serve run keeps p at =
     ⊎_elim (λ (worked : Contains (passes_of stints ++ idles.passes_of after.idle) p). ⊎_elim (serve p) (run p) (Contains-append_cases (passes_of stints) (idles.passes_of after.idle) p worked))
     (λ (same : upkeep ≡ p). subst P same keeps) (Contains-push_cases (passes_of stints ++ idles.passes_of after.idle) upkeep p at)
 
-module _ {L : Type 0} (s : Service L) where
+module _ {L S : Type 0} (s : Service L S) where
   -- their turns stand in the line of all passes
   pub served_in_line : (after : Standby) (upkeep : HallPass) (stints : List (Stint L)) (all : List HallPass) → AreKept stints all → ((p : HallPass) → Contains (idles.passes_of after.idle) p → Contains all p) → Contains all upkeep → AreInLine all → AreInLine (all_of stints after upkeep)
   served_in_line after upkeep stints all kept among keeps line p q cp cq m n cm cn = line p q (there p cp) (there q cq) m n cm cn
@@ -57,7 +57,7 @@ module _ {L : Type 0} (s : Service L) where
         links = by.links.links;
         given = by.links.given;
         served = served;
-        jobs = record { before = by.before; new = by.new; on = by.on; heard = by.links.served.heard };
+        jobs = record { before = by.before; new = by.new; on = by.on; sources = by.sources; heard = by.links.served.heard };
         cancelled = record {
           before = by.canceller;
           new = by.place;

@@ -31,49 +31,49 @@ keeps_one stints passes sessions pass board kept p c = ⊎_elim
     (λ (later : Contains (passes_of stints) p). Contains-append_left passes (pass ∷ []) p (kept p later))
     (Contains-append_cases (pass ∷ []) (passes_of stints) p c)
 
-module _ {L : Type 0} (s : Service L) where
-  pub gathers_none : (pass : HallPass) (board : BoardHolding) (renders : ℕ) (mine : Pass L (QueueHand L)) (r : Standby) → HasHeldSessions s (hand 1 [] []) pass board renders mine → HasGathered s 1 pass board renders mine [] r r
-  gathers_none pass board renders mine r w = record { stints = []; held = tt; last = w; kept = λ p c. c; heard = hears_none r }
+module _ {L S : Type 0} (s : Service L S) where
+  pub gathers_none : (pass : HallPass) (board : BoardHolding) (source : S) (mine : Pass L (QueueHand L)) (r : Standby) → HasHeldSessions s (hand 1 [] []) pass board source mine → HasGathered s 1 pass board source mine [] r r
+  gathers_none pass board source mine r w = record { stints = []; held = tt; last = w; kept = λ p c. c; heard = hears_none r }
 
   -- one worker more
-  pub gathers_one : (parts : ℕ) (pass other_pass : HallPass) (board other_board : BoardHolding) (renders other_renders : ℕ) (mine other later : Pass L (QueueHand L)) (passes : List HallPass) (before mid after : Standby) → HasGathered s parts pass board renders mine passes before mid
-      → HasHeldSessions s (hand 1 [] []) other_pass other_board other_renders other → HasHeard mid after (other_board ∷ []) → view later ≡ with_other (view mine) (view other) → HasGathered s (parts + 1) pass board renders later (passes ++ other_pass ∷ []) before after
-  gathers_one parts pass other_pass board other_board renders other_renders mine other later passes before mid after g w heard took = record {
+  pub gathers_one : (parts : ℕ) (pass other_pass : HallPass) (board other_board : BoardHolding) (source other_source : S) (mine other later : Pass L (QueueHand L)) (passes : List HallPass) (before mid after : Standby) → HasGathered s parts pass board source mine passes before mid
+      → HasHeldSessions s (hand 1 [] []) other_pass other_board other_source other → HasHeard mid after (other_board ∷ []) → view later ≡ with_other (view mine) (view other) → HasGathered s (parts + 1) pass board source later (passes ++ other_pass ∷ []) before after
+  gathers_one parts pass other_pass board other_board source other_source mine other later passes before mid after g w heard took = record {
     stints = stint w.sessions other_pass other_board ∷ g.stints;
     kept = keeps_one g.stints passes w.sessions other_pass other_board g.kept;
-    held = (stint_of s (hand 1 [] []) other_pass other_board other_renders other w, g.held);
+    held = (stint_of s (hand 1 [] []) other_pass other_board other_source other w, g.held);
     heard = hears_one before mid after other_board (boards_of g.stints) g.heard heard;
     last = record {
       sessions = g.last.sessions;
       board_before = g.last.board_before;
       at_board = g.last.at_board;
-      renders_before = g.last.renders_before;
+      source_before = g.last.source_before;
       held = g.last.held;
       took = took ∙ (λ i. with_other (g.last.took i) (w.took i)) ∙ ap (hand (parts + 1) []) (sym (append_assoc (links_of w.sessions) (links_in g.stints) (links_of g.last.sessions)));
     };
   }
 
   -- and the hand that put the links: it has taken none
-  pub gathers_put : (parts more : ℕ) (put : List L) (pass : HallPass) (board : BoardHolding) (renders : ℕ) (mine other later : Pass L (QueueHand L)) (passes : List HallPass) (before after : Standby) (g : HasGathered s parts pass board renders mine passes before after) → view other ≡ hand more put []
-      → view later ≡ with_other (view mine) (view other) → HasHeldSessions s (hand (parts + more) put (links_in g.stints)) pass board renders later
-  gathers_put parts more put pass board renders mine other later passes before after g puts took = record {
+  pub gathers_put : (parts more : ℕ) (put : List L) (pass : HallPass) (board : BoardHolding) (source : S) (mine other later : Pass L (QueueHand L)) (passes : List HallPass) (before after : Standby) (g : HasGathered s parts pass board source mine passes before after) → view other ≡ hand more put []
+      → view later ≡ with_other (view mine) (view other) → HasHeldSessions s (hand (parts + more) put (links_in g.stints)) pass board source later
+  gathers_put parts more put pass board source mine other later passes before after g puts took = record {
     sessions = g.last.sessions;
     board_before = g.last.board_before;
     at_board = g.last.at_board;
-    renders_before = g.last.renders_before;
+    source_before = g.last.source_before;
     held = g.last.held;
     took = took ∙ (λ i. with_other (g.last.took i) (puts i)) ∙ ap (λ (xs : List L). hand (parts + more) xs (links_in g.stints ++ links_of g.last.sessions)) (append-nil put);
   }
 
   -- who is alone at the queue and has taken what was put has served all of it, with the others
-  pub all_served : (parts : ℕ) (put : List L) (stints : List (Stint L)) (pass : HallPass) (board : BoardHolding) (renders : ℕ) (mine : Pass L (QueueHand L)) (passes : List HallPass) (before mid after : Standby) → AllByRecursion (IsStint s) stints → AreKept stints passes → HasHeard before mid (boards_of stints)
-      → HasHeldSessions s (hand parts put (links_in stints)) pass board renders mine → IsEven (view mine) → HasHeard mid after (board ∷ []) → AreServedBy s put (passes ++ pass ∷ []) before after
-  all_served parts put stints pass board renders mine passes before mid after held kept had w even heard = record {
+  pub all_served : (parts : ℕ) (put : List L) (stints : List (Stint L)) (pass : HallPass) (board : BoardHolding) (source : S) (mine : Pass L (QueueHand L)) (passes : List HallPass) (before mid after : Standby) → AllByRecursion (IsStint s) stints → AreKept stints passes → HasHeard before mid (boards_of stints)
+      → HasHeldSessions s (hand parts put (links_in stints)) pass board source mine → IsEven (view mine) → HasHeard mid after (board ∷ []) → AreServedBy s put (passes ++ pass ∷ []) before after
+  all_served parts put stints pass board source mine passes before mid after held kept had w even heard = record {
     kept = keeps_one stints passes w.sessions pass board kept;
     heard = hears_one before mid after board (boards_of stints) had heard;
     served = record {
       stints = stint w.sessions pass board ∷ stints;
-      held = (stint_of s (hand parts put (links_in stints)) pass board renders mine w, held);
+      held = (stint_of s (hand parts put (links_in stints)) pass board source mine w, held);
       each = λ f.
           let had = ap (λ (v : QueueHand L). weigh f v.put) w.took in
           let took = ap (λ (v : QueueHand L). weigh f v.taken) w.took in
@@ -83,24 +83,24 @@ module _ {L : Type 0} (s : Service L) where
   }
 
   -- of so many others as there were, so many are left
-  pub record Gather (all left : ℕ) (pass : HallPass) (board : BoardHolding) (renders : ℕ) (mine : Pass L (QueueHand L)) (passes : List HallPass) (before after : Standby) : Type 0 where
+  pub record Gather (all left : ℕ) (pass : HallPass) (board : BoardHolding) (source : S) (mine : Pass L (QueueHand L)) (passes : List HallPass) (before after : Standby) : Type 0 where
     pub gone : ℕ
     pub each : gone + left ≡ all
-    pub gathered : HasGathered s (1 + gone) pass board renders mine passes before after
+    pub gathered : HasGathered s (1 + gone) pass board source mine passes before after
 
-  pub gather_begins : (all : ℕ) (pass : HallPass) (board : BoardHolding) (renders : ℕ) (mine : Pass L (QueueHand L)) (r : Standby) → HasHeldSessions s (hand 1 [] []) pass board renders mine → Gather all all pass board renders mine [] r r
-  gather_begins all pass board renders mine r w = record { gone = 0; each = omega arith; gathered = gathers_none pass board renders mine r w }
+  pub gather_begins : (all : ℕ) (pass : HallPass) (board : BoardHolding) (source : S) (mine : Pass L (QueueHand L)) (r : Standby) → HasHeldSessions s (hand 1 [] []) pass board source mine → Gather all all pass board source mine [] r r
+  gather_begins all pass board source mine r w = record { gone = 0; each = omega arith; gathered = gathers_none pass board source mine r w }
 
-  pub gather_goes_on : (all left next : ℕ) (pass other_pass : HallPass) (board other_board : BoardHolding) (renders other_renders : ℕ) (mine other later : Pass L (QueueHand L)) (passes : List HallPass) (before mid after : Standby) → left ≡ next + 1 → Gather all left pass board renders mine passes before mid
-      → HasHeldSessions s (hand 1 [] []) other_pass other_board other_renders other → HasHeard mid after (other_board ∷ []) → view later ≡ with_other (view mine) (view other) → Gather all next pass board renders later (passes ++ other_pass ∷ []) before after
-  gather_goes_on all left next pass other_pass board other_board renders other_renders mine other later passes before mid after e g w heard took = record {
+  pub gather_goes_on : (all left next : ℕ) (pass other_pass : HallPass) (board other_board : BoardHolding) (source other_source : S) (mine other later : Pass L (QueueHand L)) (passes : List HallPass) (before mid after : Standby) → left ≡ next + 1 → Gather all left pass board source mine passes before mid
+      → HasHeldSessions s (hand 1 [] []) other_pass other_board other_source other → HasHeard mid after (other_board ∷ []) → view later ≡ with_other (view mine) (view other) → Gather all next pass board source later (passes ++ other_pass ∷ []) before after
+  gather_goes_on all left next pass other_pass board other_board source other_source mine other later passes before mid after e g w heard took = record {
     gone = g.gone + 1;
     each = omega (arith, e, g.each);
-    gathered = subst (λ n. HasGathered s n pass board renders later (passes ++ other_pass ∷ []) before after) (omega arith) (gathers_one (1 + g.gone) pass other_pass board other_board renders other_renders mine other later passes before mid after g.gathered w heard took);
+    gathered = subst (λ n. HasGathered s n pass board source later (passes ++ other_pass ∷ []) before after) (omega arith) (gathers_one (1 + g.gone) pass other_pass board other_board source other_source mine other later passes before mid after g.gathered w heard took);
   }
 
-  pub gather_ends : (all left : ℕ) (pass : HallPass) (board : BoardHolding) (renders : ℕ) (mine : Pass L (QueueHand L)) (passes : List HallPass) (before after : Standby) → left ≡ 0 → Gather all left pass board renders mine passes before after → HasGathered s (1 + all) pass board renders mine passes before after
-  gather_ends all left pass board renders mine passes before after none g = subst (λ n. HasGathered s n pass board renders mine passes before after) (omega (arith, none, g.each)) g.gathered
+  pub gather_ends : (all left : ℕ) (pass : HallPass) (board : BoardHolding) (source : S) (mine : Pass L (QueueHand L)) (passes : List HallPass) (before after : Standby) → left ≡ 0 → Gather all left pass board source mine passes before after → HasGathered s (1 + all) pass board source mine passes before after
+  gather_ends all left pass board source mine passes before after none g = subst (λ n. HasGathered s n pass board source mine passes before after) (omega (arith, none, g.each)) g.gathered
 
   -- what was served, with the pass of the upkeep and those of members put behind those that served; who runs jobs and who cancels them have
   -- heard of it

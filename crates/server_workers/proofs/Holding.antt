@@ -10,37 +10,38 @@ use Rattle.job_board.specs.Calls.{BoardHolding, IsBoardPass}
 use Rattle.link_queue.specs.Hands.{IsHand, hand, with_taken}
 use Rattle.link_queue.specs.declared.hand.QueueHand.{QueueHand}
 use Rattle.server_workers.specs.Crew.{HasHeldSessions, IsNew, IsWorkerReady}
-use Rattle.server_workers.specs.Stints.{AreHeld, HeldSession, IsHeld, IsStint, Service, links_of}
+use Rattle.server_workers.specs.Stints.{AreHeld, HeldSession, IsHeld, IsStint, Service, done_by, links_of}
+use Rattle.source_render.specs.Renders.{Renders}
 
-module _ {L : Type 0} (s : Service L) where
+module _ {L S : Type 0} (s : Service L S) where
   -- a session more at the end
-  held_then : (pass : HallPass) (board : BoardHolding) (renders : ℕ) (hs : List (HeldSession L)) (pass' : HallPass) (board' : BoardHolding) (renders' : ℕ) (h : HeldSession L) → AreHeld s pass board renders hs pass' board' renders' → h.pass ≡ pass' → h.board ≡ board'
+  held_then : (pass : HallPass) (board : BoardHolding) (renders : Renders) (hs : List (HeldSession L)) (pass' : HallPass) (board' : BoardHolding) (renders' : Renders) (h : HeldSession L) → AreHeld s pass board renders hs pass' board' renders' → h.pass ≡ pass' → h.board ≡ board'
       → h.renders.before ≡ renders' → IsHeld s h → AreHeld s pass board renders (hs ++ h ∷ []) h.pass_after h.board_after h.renders.after
   held_then pass board renders [] pass' board' renders' h held p b r is = (p ∙ held.0, b ∙ held.1, r ∙ held.2, is, (refl, refl, refl))
   held_then pass board renders (x ∷ xs) pass' board' renders' h held p b r is =
       (held.0, held.1, held.2, held.3, held_then x.pass_after x.board_after x.renders.after xs pass' board' renders' h held.4 p b r is)
 
-  pub worked_once_more : (before : QueueHand L) (pass : HallPass) (board : BoardHolding) (renders : ℕ) (mine later : Pass L (QueueHand L)) (h : HeldSession L) → HasHeldSessions s before pass board renders mine → view later ≡ with_taken (view mine) h.link → h.pass ≡ pass → h.board ≡ board
-      → h.renders.before ≡ renders → IsHeld s h → HasHeldSessions s before h.pass_after h.board_after h.renders.after later
-  worked_once_more before pass board renders mine later h w took p b r is = record {
+  pub worked_once_more : (before : QueueHand L) (pass : HallPass) (board : BoardHolding) (source source' : S) (mine later : Pass L (QueueHand L)) (h : HeldSession L) → HasHeldSessions s before pass board source mine → view later ≡ with_taken (view mine) h.link → h.pass ≡ pass → h.board ≡ board
+      → h.renders.before ≡ done_by s.sources source → h.renders.after ≡ done_by s.sources source' → IsHeld s h → HasHeldSessions s before h.pass_after h.board_after source' later
+  worked_once_more before pass board source source' mine later h w took p b r r' is = record {
     sessions = w.sessions ++ h ∷ [];
     board_before = w.board_before;
     at_board = w.at_board;
-    renders_before = w.renders_before;
-    held = held_then s.first w.board_before w.renders_before w.sessions pass board renders h w.held p b r is;
+    source_before = w.source_before;
+    held = subst (AreHeld s s.first w.board_before (done_by s.sources w.source_before) (w.sessions ++ h ∷ []) h.pass_after h.board_after) r' (held_then s.first w.board_before (done_by s.sources w.source_before) w.sessions pass board (done_by s.sources source) h w.held p b r is);
     took = took ∙ ap (λ (v : QueueHand L). with_taken v h.link) w.took
         ∙ ap (hand before.parts before.put) (append_assoc before.taken (links_of w.sessions) (h.link ∷ []) ∙ ap (λ (xs : List L). before.taken ++ xs) (sym (map-append (λ (x : HeldSession L). x.link) w.sessions (h ∷ []))));
   }
 
   -- nothing at first
-  pub new_has_worked : (queue : TableId) (tells : Option ℕ) (pass : HallPass) (board : BoardHolding) (renders : ℕ) (mine : Pass L (QueueHand L)) → IsNew queue s tells pass board mine → HasHeldSessions s (hand 1 [] []) pass board renders mine
-  new_has_worked queue tells pass board renders mine new =
-      record { sessions = []; board_before = board; at_board = new.at_board; renders_before = renders; held = (new.pass_is, refl, refl); took = new.hand_is.knows }
+  pub new_has_worked : (queue : TableId) (tells : Option ℕ) (pass : HallPass) (board : BoardHolding) (source : S) (mine : Pass L (QueueHand L)) → IsNew queue s tells pass board mine → HasHeldSessions s (hand 1 [] []) pass board source mine
+  new_has_worked queue tells pass board source mine new =
+      record { sessions = []; board_before = board; at_board = new.at_board; source_before = source; held = (new.pass_is, refl, refl); took = new.hand_is.knows }
 
   -- what a worker held from its first hand on is a stint
-  pub stint_of : (before : QueueHand L) (pass : HallPass) (board : BoardHolding) (renders : ℕ) (mine : Pass L (QueueHand L)) (w : HasHeldSessions s before pass board renders mine) → IsStint s (record { sessions = w.sessions; pass = pass; board = board })
-  stint_of before pass board renders mine w =
-      record { board_before = w.board_before; at_board = w.at_board; renders_before = w.renders_before; renders_after = renders; held = w.held }
+  pub stint_of : (before : QueueHand L) (pass : HallPass) (board : BoardHolding) (source : S) (mine : Pass L (QueueHand L)) (w : HasHeldSessions s before pass board source mine) → IsStint s (record { sessions = w.sessions; pass = pass; board = board })
+  stint_of before pass board source mine w =
+      record { board_before = w.board_before; at_board = w.at_board; source_before = w.source_before; source_after = source; held = w.held }
 
   -- a new worker may serve
   pub new_is_ready : (queue table : TableId) (tells : Option ℕ) (pass : HallPass) (board : BoardHolding) (mine : Pass L (QueueHand L)) → s.first.table ≡ table → s.first.charter ≡ Some s.catalogue → IsNew queue s tells pass board mine → IsWorkerReady queue table s.board s.catalogue tells pass board mine

@@ -13,6 +13,7 @@ use Rattle.job_board.specs.declared.shown.BoardReply.{BoardReply}
 use Rattle.job_board.specs.declared.shown.BoardReply.TheVariants as reply
 use Rattle.job_places.specs.declared.tally.Tally.{Tally}
 use Rattle.job_places.specs.Visits.{Visit}
+use Rattle.source_render.specs.Renders.{Renders}
 use Rattle.seed_jobs.specs.Idles.{Idle, MayJoin, Standby, passes_of, without_hand}
 use Rattle.seed_jobs.specs.Runs.{AreRun, DoesAfter, IsJobRunByCrew, Round}
 use Rattle.job_board.specs.Hands.{Sheet, SheetHolding}
@@ -39,10 +40,10 @@ module _ {A : Type 0} (P : A → Type 0) where
 
 -- VISITS
 
-of_visits : (c : Catalogue) (told : Bool) (job : Job) (seen : FrontedBook) (faults : ℕ) (vs : List Visit) (sees : FrontedBook) (after : ℕ) → AreVisits c told job seen faults vs sees after → (m : Made Note) → Contains (turns_of vs) m → IsTurnAt c m
-of_visits c told job seen faults [] sees after are m (k, lt, _) = absurd (omega (arith, lt))
-of_visits c told job seen faults (v ∷ vs) sees after are m at =
-    ⊎_elim (λ (mine : Contains v.gained m). of_turns c told v.seen v.sees v.gained are.2.turns m mine) (λ (later : Contains (turns_of vs) m). of_visits c told job v.sees v.faults_after vs sees after are.3 m later)
+of_visits : (c : Catalogue) (told : Bool) (job : Job) (seen : FrontedBook) (so_far : Renders) (vs : List Visit) (sees : FrontedBook) (after : Renders) → AreVisits c told job seen so_far vs sees after → (m : Made Note) → Contains (turns_of vs) m → IsTurnAt c m
+of_visits c told job seen so_far [] sees after are m (k, lt, _) = absurd (omega (arith, lt))
+of_visits c told job seen so_far (v ∷ vs) sees after are m at =
+    ⊎_elim (λ (mine : Contains v.gained m). of_turns c told v.seen v.sees v.gained are.2.turns m mine) (λ (later : Contains (turns_of vs) m). of_visits c told job v.sees v.renders_after vs sees after are.3 m later)
     (Contains-append_cases v.gained (turns_of vs) m at)
 
 -- A CREW
@@ -61,7 +62,7 @@ crew_keeps c job (b ∷ crew) [] ts worked had = absurd worked
 crew_keeps c job (b ∷ crew) (a ∷ crew_after) [] worked had = absurd worked
 crew_keeps c job (b ∷ crew) (a ∷ crew_after) (t ∷ ts) worked had =
     let w = worked.0.worked in (
-      more_turns c b.pass a.pass (turns_of w.visits) (ap (λ (p : HallPass). p.made) w.made) had.0 (of_visits c b.pass.told job b.pass.book b.faults w.visits a.pass.book a.faults w.are_visits),
+      more_turns c b.pass a.pass (turns_of w.visits) (ap (λ (p : HallPass). p.made) w.made) had.0 (of_visits c b.pass.told job b.pass.book b.renders w.visits a.pass.book a.renders w.are_visits),
       crew_keeps c job crew crew_after ts worked.1 had.1,
     )
 

@@ -32,7 +32,8 @@ use Rattle.truncation_list.proofs.Answering.{fronted_itself, fronted_through}
 use Rattle.turnstile.specs.declared.view.Made.{Made}
 use Rattle.turnstile.proofs.Notes.{the_one}
 use Rattle.server_workers.specs.Cancelled.{AreCancelled, HasStoppedTo, IsSubmit}
-use Rattle.server_workers.specs.Stints.{AreHeld, HeldSession, IsStint, Service, Stint, boards_of}
+use Rattle.source_render.specs.Renders.{GivenImage, Renders}
+use Rattle.server_workers.specs.Stints.{AreHeld, HeldSession, IsStint, Service, Stint, boards_of, done_by}
 use Rattle.server_workers.proofs.Stopping.{stop_of}
 
 -- THE TURNS OF A PLACE
@@ -111,18 +112,18 @@ after_either : (c : Catalogue) (r : Option JobRequest) (gained : List (Made hall
 after_either c None gained before after o Other Unasked served had = same_place before after served.1 had
 after_either c (Some r) gained before after o Other Unasked served had = after_job_message c r gained before after o served.0 had
 
-after_message : (c : Catalogue) (book : RecipeBook) (told : Bool) (seen : FrontedBook) (m : Message) (asked : Option Request) (gained : List (Made hall.Note)) (before after : BoardHolding) (o : Outcome) → IsMessageServed c book told seen m asked gained before after o → KnowsOwn before → KnowsOwn after
-after_message c book told seen m asked gained before after o served had = after_either c (request_for c m) gained before after o (IsCacheMessageServed c book told seen m asked gained o) (asked ≡ None) served had
+after_message : (c : Catalogue) (gave : List GivenImage) (book : RecipeBook) (told : Bool) (seen : FrontedBook) (m : Message) (asked : Option Request) (gained : List (Made hall.Note)) (before after : BoardHolding) (o : Outcome) → IsMessageServed c gave book told seen m asked gained before after o → KnowsOwn before → KnowsOwn after
+after_message c gave book told seen m asked gained before after o served had = after_either c (request_for c m) gained before after o (IsCacheMessageServed c gave book told seen m asked gained o) (asked ≡ None) served had
 
 -- SESSIONS
 
-after_exchanges : (c : Catalogue) (book : RecipeBook) (told : Bool) (seen : FrontedBook) (board : BoardHolding) (renders : ℕ) (es : List HallExchange) (sees : FrontedBook) (board_after : BoardHolding) (after : ℕ) → AreExchanges c book told seen board renders es sees board_after after → KnowsOwn board → KnowsOwn board_after
+after_exchanges : (c : Catalogue) (book : RecipeBook) (told : Bool) (seen : FrontedBook) (board : BoardHolding) (renders : Renders) (es : List HallExchange) (sees : FrontedBook) (board_after : BoardHolding) (after : Renders) → AreExchanges c book told seen board renders es sees board_after after → KnowsOwn board → KnowsOwn board_after
 after_exchanges c book told seen board renders [] sees board_after after are had = same_place board board_after are.1 had
 after_exchanges c book told seen board renders (e ∷ es) sees board_after after are had =
-    after_exchanges c book told e.sees e.board_after e.renders_after es sees board_after after are.4 (after_message c book told e.seen e.message e.request e.gained e.board_before e.board_after e.came_to are.3.served (same_place board e.board_before are.1 had))
+    after_exchanges c book told e.sees e.board_after e.renders_after es sees board_after after are.4 (after_message c e.renders_after.gave book told e.seen e.message e.request e.gained e.board_before e.board_after e.came_to are.3.served (same_place board e.board_before are.1 had))
 
-module _ {L : Type 0} (s : Service L) where
-  after_sessions : (pass : HallPass) (board : BoardHolding) (renders : ℕ) (hs : List (HeldSession L)) (left : HallPass) (board_after : BoardHolding) (after : ℕ) → AreHeld s pass board renders hs left board_after after → KnowsOwn board → KnowsOwn board_after
+module _ {L S : Type 0} (s : Service L S) where
+  after_sessions : (pass : HallPass) (board : BoardHolding) (renders : Renders) (hs : List (HeldSession L)) (left : HallPass) (board_after : BoardHolding) (after : Renders) → AreHeld s pass board renders hs left board_after after → KnowsOwn board → KnowsOwn board_after
   after_sessions pass board renders [] left board_after after held had = same_place board board_after held.1 had
   after_sessions pass board renders (h ∷ hs) left board_after after held had =
       let session = held.3 in
@@ -133,7 +134,7 @@ module _ {L : Type 0} (s : Service L) where
   of_stints [] are p (k, lt, _) = absurd (omega (arith, lt))
   of_stints (t ∷ ts) are p among = ⊎_elim
       (λ (mine : Contains (t.board ∷ []) p). subst KnowsOwn (the_one t.board p mine)
-      (after_sessions s.first are.0.board_before are.0.renders_before t.sessions t.pass t.board are.0.renders_after are.0.held (no_turns are.0.board_before are.0.at_board.nothing)))
+      (after_sessions s.first are.0.board_before (done_by s.sources are.0.source_before) t.sessions t.pass t.board (done_by s.sources are.0.source_after) are.0.held (no_turns are.0.board_before are.0.at_board.nothing)))
       (λ (later : Contains (boards_of ts) p). of_stints ts are.1 p later) (Contains-append_cases (t.board ∷ []) (boards_of ts) p among)
 
 -- THE JOBS THAT WERE SUBMITTED
@@ -161,7 +162,7 @@ submitted seen turn n is submit =
     record { least = omega (arith, next); most = omega (arith, room, next); known = omega (arith, next, left, front, length-append b.watches (row.3.1 ∷ [])) }
 
 -- who has heard of all that these places know, and then stops all jobs, has cancelled each that was submitted from them
-pub all_cancelled : {L : Type 0} (s : Service L) (ts : List (Stint L)) (heard after : BoardHolding) → AllByRecursion (IsStint s) ts → All (λ (p : BoardHolding). AnswersForFronted heard.book p.book) (boards_of ts) → (again : HasStoppedTo 1024 heard after) → AreCancelled (boards_of ts) again.turns
+pub all_cancelled : {L S : Type 0} (s : Service L S) (ts : List (Stint L)) (heard after : BoardHolding) → AllByRecursion (IsStint s) ts → All (λ (p : BoardHolding). AnswersForFronted heard.book p.book) (boards_of ts) → (again : HasStoppedTo 1024 heard after) → AreCancelled (boards_of ts) again.turns
 all_cancelled s ts heard after held knows again p at submit made n is =
     let job = submitted p.book submit n (of_stints s ts held p at submit made) is in
     let least = job.least in

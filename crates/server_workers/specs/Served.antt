@@ -25,7 +25,7 @@ pub record Listened (L : Type 0) : Type 0 where
 -- that the sessions had submitted; at the end each of these was cancelled; meanwhile one pass that had made nothing kept the cache up, and
 -- did nothing else. The turns of all of them stand in one line, and of any two of them what was asked for is newer than what was truncated
 -- before.
-pub record HasServedOver {L : Type 0} (s : Service L) (h : Listened L) : Type 0 where
+pub record HasServedOver {L S : Type 0} (s : Service L S) (h : Listened L) : Type 0 where
   pub links : List L
   pub given : h.given_after ≡ h.given_before ++ links
   pub served : AreServed s links
@@ -38,7 +38,7 @@ pub record HasServedOver {L : Type 0} (s : Service L) (h : Listened L) : Type 0 
 
 -- What each end says: as many links were given as were asked for, and served; those that were given were served, and an accept had failed;
 -- memory ran out, or threads could not be made, before the listener was asked for the first link.
-abbrev pub HasEndedOver : {L : Type 0} → Service L → Listened L → Type 0 → ServiceEnd → Type 0
+abbrev pub HasEndedOver : {L S : Type 0} → Service L S → Listened L → Type 0 → ServiceEnd → Type 0
 HasEndedOver s h ListenerStays end.Done = (o : HasServedOver s h) × (length o.links ≡ h.connections)
 HasEndedOver s h ListenerStays end.ListenFault = HasServedOver s h × Rose h.accepts.before h.accepts.after
 HasEndedOver s h ListenerStays end.OutOfMemory = ListenerStays

@@ -8,8 +8,9 @@ use Rattle.hall_sessions.specs.Sessions.{HasHallSession, output_of}
 use Rattle.job_board.specs.Calls.{BoardHolding, IsFirstBoardPass}
 use Rattle.layer_recipes.specs.declared.book.RecipeBook.{RecipeBook}
 use Rattle.link_queue.specs.Weights.{WeighAlike}
-use Rattle.sessions.specs.Outside.{FaultCounts, counts}
+use Rattle.sessions.specs.Outside.{counts}
 use Rattle.sessions.specs.declared.session.SessionEnd.{SessionEnd}
+use Rattle.source_render.specs.Renders.{GivenImage, RenderChange, Renders, renders}
 
 -- how contracts read a link: the bytes that are left to take of it and those that it has taken, where these are modelled, and how often a
 -- take and a put have failed
@@ -19,7 +20,16 @@ pub record LinkReading (L : Type 0) : Type 0 where
   pub reads : L → ℕ
   pub writes : L → ℕ
 
--- a session that was held: its link, its pass and its place at the board of jobs, before it and after it, the faults of its source, and its
+-- how contracts read a source: how often it has failed, and the images that it gave
+pub record SourceReading (S : Type 0) : Type 0 where
+  pub faults : S → ℕ
+  pub gave : S → List GivenImage
+
+-- what a source has done
+abbrev pub done_by : {S : Type 0} → SourceReading S → S → Renders
+done_by reading source = renders (reading.faults source) (reading.gave source)
+
+-- a session that was held: its link, its pass and its place at the board of jobs, before it and after it, what its source had done, and its
 -- end
 pub record HeldSession (L : Type 0) : Type 0 where
   pub link : L
@@ -28,7 +38,7 @@ pub record HeldSession (L : Type 0) : Type 0 where
   pub pass_after : HallPass
   pub board : BoardHolding
   pub board_after : BoardHolding
-  pub renders : FaultCounts
+  pub renders : RenderChange
   pub end : SessionEnd
 
 abbrev pub links_of : {L : Type 0} → List (HeldSession L) → List L
@@ -49,21 +59,22 @@ passes_of stints = map (λ t. t.pass) stints
 abbrev pub boards_of : {L : Type 0} → List (Stint L) → List BoardHolding
 boards_of stints = map (λ t. t.board) stints
 
--- what is served: how its links are read, the capabilities document, the catalogue, the recipes of composites, the board of jobs, and a pass
+-- what is served: how its links and the sources of its workers are read, the capabilities document, the catalogue, the recipes of composites, the board of jobs, and a pass
 -- of its hall that has made nothing yet
-pub record Service (L : Type 0) : Type 0 where
+pub record Service (L S : Type 0) : Type 0 where
   pub reading : LinkReading L
+  pub sources : SourceReading S
   pub document : List ℕ
   pub catalogue : Catalogue
   pub recipes : RecipeBook
   pub board : TableId
   pub first : HallPass
 
-abbrev pub serving : {L : Type 0} → (left taken : L → Option (List ℕ)) → (reads writes : L → ℕ) → List ℕ → Catalogue → RecipeBook → TableId → HallPass → Service L
-serving left taken reads writes document c recipes board first =
-    record { reading = record { left = left; taken = taken; reads = reads; writes = writes }; document = document; catalogue = c; recipes = recipes; board = board; first = first }
+abbrev pub serving : {L S : Type 0} → (left taken : L → Option (List ℕ)) → (reads writes : L → ℕ) → (faults : S → ℕ) → (gave : S → List GivenImage) → List ℕ → Catalogue → RecipeBook → TableId → HallPass → Service L S
+serving left taken reads writes faults gave document c recipes board first =
+    record { reading = record { left = left; taken = taken; reads = reads; writes = writes }; sources = record { faults = faults; gave = gave }; document = document; catalogue = c; recipes = recipes; board = board; first = first }
 
-module _ {L : Type 0} (s : Service L) where
+module _ {L S : Type 0} (s : Service L S) where
   abbrev pub IsHeld : HeldSession L → Type 0
   IsHeld h =
       HasHallSession
@@ -71,18 +82,18 @@ module _ {L : Type 0} (s : Service L) where
       (output_of (counts (s.reading.writes h.link) (s.reading.writes h.link_after)) (s.reading.taken h.link) (s.reading.taken h.link_after)) h.renders s.document s.catalogue s.recipes h.pass h.pass_after h.board h.board_after h.end
 
   -- sessions one after the other, each by the pass, with the place at the board and with the source that the one before left
-  abbrev pub AreHeld : HallPass → BoardHolding → ℕ → List (HeldSession L) → HallPass → BoardHolding → ℕ → Type 0
+  abbrev pub AreHeld : HallPass → BoardHolding → Renders → List (HeldSession L) → HallPass → BoardHolding → Renders → Type 0
   AreHeld pass board renders [] pass_after board_after renders_after = (pass_after ≡ pass) × (board_after ≡ board) × (renders_after ≡ renders)
   AreHeld pass board renders (h ∷ hs) pass_after board_after renders_after =
       (h.pass ≡ pass) × (h.board ≡ board) × (h.renders.before ≡ renders) × IsHeld h × AreHeld h.pass_after h.board_after h.renders.after hs pass_after board_after renders_after
 
-  -- the first of the sessions was held by a pass that had made nothing, at the hall and at the board
+  -- the first of the sessions was held by a pass that had made nothing, at the hall and at the board; the source went from one to another
   pub record IsStint (t : Stint L) : Type 0 where
     pub board_before : BoardHolding
     pub at_board : IsFirstBoardPass s.board board_before
-    pub renders_before : ℕ
-    pub renders_after : ℕ
-    pub held : AreHeld s.first board_before renders_before t.sessions t.pass t.board renders_after
+    pub source_before : S
+    pub source_after : S
+    pub held : AreHeld s.first board_before (done_by s.sources source_before) t.sessions t.pass t.board (done_by s.sources source_after)
 
   -- each of these links was served in one session of one stint, to its end
   pub record AreServed (links : List L) : Type 0 where

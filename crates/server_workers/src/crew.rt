@@ -75,8 +75,8 @@ fn workers_of<K: Keeper, S: Source, L: Link>(
     ensures passes { IfOk result (λ workers. length supplies.new.passes.items + WORKERS ≡ length supplies.old.passes.items) }
     ensures boards { IfOk result (λ workers. length supplies.new.boards.items + WORKERS ≡ length supplies.old.boards.items) }
     ensures sources { IfOk result (λ workers. length supplies.new.sources.items + WORKERS ≡ length supplies.old.sources.items) }
-    ensures new { (s : Service L) → AreSupplies s S.told supplies.old.passes.items supplies.old.boards.items supplies.old.sources.items
-        → IfOk result (λ workers. AreNewWorkers S.told S.faults (table_of queue.now.links) s workers.items
+    ensures new { (s : Service L S) → AreSupplies s S.told supplies.old.passes.items supplies.old.boards.items supplies.old.sources.items
+        → IfOk result (λ workers. AreNewWorkers S.told (table_of queue.now.links) s workers.items
         × AreSupplies s S.told supplies.new.passes.items supplies.new.boards.items supplies.new.sources.items) }
 {
     let mut workers = Vec::new(alloc);
@@ -137,8 +137,8 @@ pub(crate) fn crew_of<K: Keeper, S: Source, L: Link, G: JobGate>(
     requires mine { IsHand (table_of queue.now.links) (hand all_parts [] []) mine.old }
     ensures mine { IfOk result (λ crew. IsHand (table_of queue.now.links) (hand (all_parts - WORKERS) [] []) mine.new) }
     ensures each { IfOk result (λ crew. length crew.workers.items ≡ WORKERS) }
-    ensures new { (s : Service L) → s.first.charter ≡ Some s.catalogue → AreSupplies s S.told supplies.passes.items supplies.boards.items supplies.sources.items
-        → IfOk result (λ crew. AreNewWorkers S.told S.faults (table_of queue.now.links) s crew.workers.items
+    ensures new { (s : Service L S) → s.first.charter ≡ Some s.catalogue → AreSupplies s S.told supplies.passes.items supplies.boards.items supplies.sources.items
+        → IfOk result (λ crew. AreNewWorkers S.told (table_of queue.now.links) s crew.workers.items
         × (crew.upkeep ≡ s.first) × IsNewRunner s crew.runner × IsFirstBoardPass s.board crew.canceller) }
 {
     let mut supplies = supplies;

@@ -35,16 +35,16 @@ fn gather<K: Keeper, S: Source, L: Link, G: JobGate>(
 )
     requires empty { passes.old.items ≡ [] }
     requires room { length others.items ≤ vec_capacity passes.old }
-    requires last { MayServe (place_of world.now (table_of queue.now.links)) (worker_of S.told S.faults last.old) }
-    requires others { MayAllServe S.told S.faults (place_of world.now (table_of queue.now.links)) others.items }
+    requires last { MayServe (place_of world.now (table_of queue.now.links)) (worker_of S.told last.old) }
+    requires others { MayAllServe S.told (place_of world.now (table_of queue.now.links)) others.items }
     requires runner { idles.IsStandbyReady world.now.board.turnstile.table world.now.hall.turnstile.table world.now.hall.catalogue runner.old }
-    ensures ready { MayServe (place_of world.now (table_of queue.now.links)) (worker_of S.told S.faults last.new) }
+    ensures ready { MayServe (place_of world.now (table_of queue.now.links)) (worker_of S.told last.new) }
     ensures of { All (λ p. p.table ≡ world.now.hall.turnstile.table) passes.new.items }
     ensures count { length passes.new.items ≡ length others.items }
     ensures room { vec_capacity passes.new ≡ vec_capacity passes.old }
-    ensures gathered { (s : Service L) → HasServedSince s (hand 1 [] []) (worker_of S.told S.faults last.old)
-        → HaveServedSince S.told S.faults s (hand 1 [] []) others.items
-        → HasGathered s (1 + length others.items) last.new.pass last.new.board (S.faults last.new.source) last.new.hand passes.new.items runner.old runner.new }
+    ensures gathered { (s : Service L S) → HasServedSince s (hand 1 [] []) (worker_of S.told last.old)
+        → HaveServedSince S.told s (hand 1 [] []) others.items
+        → HasGathered s (1 + length others.items) last.new.pass last.new.board last.new.source last.new.hand passes.new.items runner.old runner.new }
     ensures runner { idles.IsStandbyReady world.now.board.turnstile.table world.now.hall.turnstile.table world.now.hall.catalogue runner.new }
 {
     let mut others = others;
@@ -80,15 +80,15 @@ pub(crate) fn serve_rest<R: Wait + std::time::Clock, K: Keeper, S: Source, L: Li
     requires mine { IsHand (table_of queue.now.links) (view mine) mine }
     requires none { (view mine).taken ≡ [] }
     requires parts { (view mine).parts + length workers.items ≡ all_parts }
-    requires ready { MayAllServe S.told S.faults (place_of world.now (table_of queue.now.links)) workers.items }
+    requires ready { MayAllServe S.told (place_of world.now (table_of queue.now.links)) workers.items }
     requires runner { idles.IsStandbyReady world.now.board.turnstile.table world.now.hall.turnstile.table world.now.hall.catalogue runner.old }
     requires book { IsBookOf world.now.hall.catalogue world.now.recipes }
     ensures of { All (λ p. p.table ≡ world.now.hall.turnstile.table) result.items }
     ensures count { length result.items ≡ length workers.items }
     ensures room { vec_capacity result ≡ vec_capacity passes }
     ensures served { (first : HallPass)
-        → HaveServedSince S.told S.faults (service_of L.left L.taken L.ByteSource.faults L.ByteSink.faults world.now first) (hand 1 [] []) workers.items
-        → AreServedBy (service_of L.left L.taken L.ByteSource.faults L.ByteSink.faults world.now first) (view mine).put result.items runner.old runner.new }
+        → HaveServedSince S.told (service_of L.left L.taken L.ByteSource.faults L.ByteSink.faults S.faults S.gave world.now first) (hand 1 [] []) workers.items
+        → AreServedBy (service_of L.left L.taken L.ByteSource.faults L.ByteSink.faults S.faults S.gave world.now first) (view mine).put result.items runner.old runner.new }
     ensures runner { idles.IsStandbyReady world.now.board.turnstile.table world.now.hall.turnstile.table world.now.hall.catalogue runner.new }
 {
     let mut workers = workers;

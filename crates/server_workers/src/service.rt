@@ -56,11 +56,11 @@ where
     requires sources { length sources.items ≡ SOURCES }
     requires count { (length stage.passes.items ≡ PASSES) × (stage.world.hall.turnstile.passes ≡ PASSES) }
     requires boards { length stage.boards.items ≡ BOARD_PASSES }
-    requires supplied { IsSupplied stage.world.hall.turnstile.table (service_of N.L.left N.L.taken N.L.ByteSource.faults N.L.ByteSink.faults stage.world) S.told stage.passes.items stage.boards.items sources.items }
+    requires supplied { IsSupplied stage.world.hall.turnstile.table (service_of N.L.left N.L.taken N.L.ByteSource.faults N.L.ByteSink.faults S.faults S.gave stage.world) S.told stage.passes.items stage.boards.items sources.items }
     requires book { IsBookOf stage.world.hall.catalogue stage.world.recipes }
     ensures { (first : HallPass)
-        → AreSupplies (service_of N.L.left N.L.taken N.L.ByteSource.faults N.L.ByteSink.faults stage.world first) S.told stage.passes.items stage.boards.items sources.items
-        → HasEndedOver (service_of N.L.left N.L.taken N.L.ByteSource.faults N.L.ByteSink.faults stage.world first)
+        → AreSupplies (service_of N.L.left N.L.taken N.L.ByteSource.faults N.L.ByteSink.faults S.faults S.gave stage.world first) S.told stage.passes.items stage.boards.items sources.items
+        → HasEndedOver (service_of N.L.left N.L.taken N.L.ByteSource.faults N.L.ByteSink.faults S.faults S.gave stage.world first)
         (record { connections = connections; given_before = N.given listener.old; given_after = N.given listener.new; accepts = counts (N.faults listener.old) (N.faults listener.new) })
         (listener.new ≡ listener.old) result }
 {
@@ -114,13 +114,13 @@ where
     requires passes { length supplies.passes.items ≡ PASSES }
     requires boards { length supplies.boards.items ≡ BOARD_PASSES }
     requires sources { length supplies.sources.items ≡ SOURCES }
-    requires supplied { IsSupplied world.now.hall.turnstile.table (service_of N.L.left N.L.taken N.L.ByteSource.faults N.L.ByteSink.faults world.now) S.told supplies.passes.items supplies.boards.items supplies.sources.items }
+    requires supplied { IsSupplied world.now.hall.turnstile.table (service_of N.L.left N.L.taken N.L.ByteSource.faults N.L.ByteSink.faults S.faults S.gave world.now) S.told supplies.passes.items supplies.boards.items supplies.sources.items }
     requires book { IsBookOf world.now.hall.catalogue world.now.recipes }
     ensures of { IfOk result (λ s. All (λ p. p.table ≡ world.now.hall.turnstile.table) s.passes.items) }
     ensures count { IfOk result (λ s. length s.passes.items ≡ PASSES) }
     ensures served { (first : HallPass) → first.charter ≡ Some world.now.hall.catalogue
-        → AreSupplies (service_of N.L.left N.L.taken N.L.ByteSource.faults N.L.ByteSink.faults world.now first) S.told supplies.passes.items supplies.boards.items supplies.sources.items
-        → IfOk result (λ s. HasServedBy (service_of N.L.left N.L.taken N.L.ByteSource.faults N.L.ByteSink.faults world.now first)
+        → AreSupplies (service_of N.L.left N.L.taken N.L.ByteSource.faults N.L.ByteSink.faults S.faults S.gave world.now first) S.told supplies.passes.items supplies.boards.items supplies.sources.items
+        → IfOk result (λ s. HasServedBy (service_of N.L.left N.L.taken N.L.ByteSource.faults N.L.ByteSink.faults S.faults S.gave world.now first)
         (record { connections = connections; given_before = N.given listener.old; given_after = N.given listener.new; accepts = counts (N.faults listener.old) (N.faults listener.new) })
         s.passes.items s.all) }
     ensures stays { IfErr result (λ fault. listener.new ≡ listener.old) }
@@ -163,13 +163,13 @@ where
     requires boards { length supplies.boards.items ≡ BOARD_PASSES }
     requires sources { length supplies.sources.items ≡ SOURCES }
     requires acceptor { IsHand (table_of queue.now.links) (hand all_parts [] []) acceptor }
-    requires supplied { IsSupplied world.now.hall.turnstile.table (service_of N.L.left N.L.taken N.L.ByteSource.faults N.L.ByteSink.faults world.now) S.told supplies.passes.items supplies.boards.items supplies.sources.items }
+    requires supplied { IsSupplied world.now.hall.turnstile.table (service_of N.L.left N.L.taken N.L.ByteSource.faults N.L.ByteSink.faults S.faults S.gave world.now) S.told supplies.passes.items supplies.boards.items supplies.sources.items }
     requires book { IsBookOf world.now.hall.catalogue world.now.recipes }
     ensures of { IfOk result (λ s. All (λ p. p.table ≡ world.now.hall.turnstile.table) s.passes.items) }
     ensures count { IfOk result (λ s. length s.passes.items ≡ PASSES) }
     ensures served { (first : HallPass) → first.charter ≡ Some world.now.hall.catalogue
-        → AreSupplies (service_of N.L.left N.L.taken N.L.ByteSource.faults N.L.ByteSink.faults world.now first) S.told supplies.passes.items supplies.boards.items supplies.sources.items
-        → IfOk result (λ s. HasServedBy (service_of N.L.left N.L.taken N.L.ByteSource.faults N.L.ByteSink.faults world.now first)
+        → AreSupplies (service_of N.L.left N.L.taken N.L.ByteSource.faults N.L.ByteSink.faults S.faults S.gave world.now first) S.told supplies.passes.items supplies.boards.items supplies.sources.items
+        → IfOk result (λ s. HasServedBy (service_of N.L.left N.L.taken N.L.ByteSource.faults N.L.ByteSink.faults S.faults S.gave world.now first)
         (record { connections = connections; given_before = N.given listener.old; given_after = N.given listener.new; accepts = counts (N.faults listener.old) (N.faults listener.new) })
         s.passes.items s.all) }
     ensures stays { IfErr result (λ fault. listener.new ≡ listener.old) }

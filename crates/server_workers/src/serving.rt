@@ -10,7 +10,7 @@ ghost use Rattle.link_queue.specs.Accepted.{HasAccepted};
 ghost use Rattle.link_queue.specs.Hands.{IsHand, all_parts, hand, table_of};
 ghost use Rattle.link_queue.specs.declared.hand.QueueHand.{QueueHand};
 ghost use Rattle.seed_jobs.specs.Idles as idles;
-ghost use Rattle.seed_jobs.specs.Idles.{passes_of};
+ghost use Rattle.seed_jobs.specs.Idles.{AreOfSources, passes_of};
 ghost use Rattle.seed_jobs.specs.Runs.{RunsAll};
 ghost use Rattle.server_workers.specs.Cancelled.{HasCancelledOn, HasStoppedTo};
 ghost use Rattle.server_workers.specs.Crew.{HasServedLinks};
@@ -57,13 +57,13 @@ fn work_all<
     canceller: &mut BoardPass,
 )
     requires valid { IsValid world.now.hall.catalogue }
-    requires ready { MayAllServe S.told S.faults (place_of world.now (table_of queue.now.links)) workers.old }
+    requires ready { MayAllServe S.told (place_of world.now (table_of queue.now.links)) workers.old }
     requires place { IsBoardPass world.now.board.turnstile.table canceller.old }
     requires book { IsBookOf world.now.hall.catalogue world.now.recipes }
-    ensures ready { MayAllServe S.told S.faults (place_of world.now (table_of queue.now.links)) workers.new }
+    ensures ready { MayAllServe S.told (place_of world.now (table_of queue.now.links)) workers.new }
     ensures worked { (first : HallPass) (before : QueueHand L)
-        → HaveServedSince S.told S.faults (service_of L.left L.taken L.ByteSource.faults L.ByteSink.faults world.now first) before workers.old
-        → HaveServedSince S.told S.faults (service_of L.left L.taken L.ByteSource.faults L.ByteSink.faults world.now first) before workers.new }
+        → HaveServedSince S.told (service_of L.left L.taken L.ByteSource.faults L.ByteSink.faults S.faults S.gave world.now first) before workers.old
+        → HaveServedSince S.told (service_of L.left L.taken L.ByteSource.faults L.ByteSink.faults S.faults S.gave world.now first) before workers.new }
     ensures place { IsBoardPass world.now.board.turnstile.table canceller.new }
     ensures stops { HasStoppedTo 1024 canceller.old canceller.new }
 {
@@ -73,11 +73,11 @@ fn work_all<
         workers,
         WORKERS,
         &|_, worker: &mut Worker<K, S, L>|
-            requires { IsValid world.now.hall.catalogue × MayServe (place_of world.now (table_of queue.now.links)) (worker_of S.told S.faults worker.now) × IsBookOf world.now.hall.catalogue world.now.recipes }
-            ensures ready { MayServe (place_of world.entry.now (table_of queue.entry.now.links)) (worker_of S.told S.faults worker.exit.now) }
+            requires { IsValid world.now.hall.catalogue × MayServe (place_of world.now (table_of queue.now.links)) (worker_of S.told worker.now) × IsBookOf world.now.hall.catalogue world.now.recipes }
+            ensures ready { MayServe (place_of world.entry.now (table_of queue.entry.now.links)) (worker_of S.told worker.exit.now) }
             ensures worked { (first : HallPass) (before : QueueHand L)
-                → HasServedSince (service_of L.left L.taken L.ByteSource.faults L.ByteSink.faults world.entry.now first) before (worker_of S.told S.faults worker.entry.now)
-                → HasServedSince (service_of L.left L.taken L.ByteSource.faults L.ByteSink.faults world.entry.now first) before (worker_of S.told S.faults worker.exit.now) }
+                → HasServedSince (service_of L.left L.taken L.ByteSource.faults L.ByteSink.faults S.faults S.gave world.entry.now first) before (worker_of S.told worker.entry.now)
+                → HasServedSince (service_of L.left L.taken L.ByteSource.faults L.ByteSink.faults S.faults S.gave world.entry.now first) before (worker_of S.told worker.exit.now) }
         { work(rt, alloc, world, queue, worker) },
     );
     is_over.store(true, Ordering::SeqCst);
@@ -104,16 +104,16 @@ fn work_and_run<
     canceller: &mut BoardPass,
 )
     requires valid { IsValid world.now.hall.catalogue }
-    requires ready { MayAllServe S.told S.faults (place_of world.now (table_of queue.now.links)) workers.old }
+    requires ready { MayAllServe S.told (place_of world.now (table_of queue.now.links)) workers.old }
     requires runner { idles.IsStandbyReady world.now.board.turnstile.table world.now.hall.turnstile.table world.now.hall.catalogue runner.old }
     requires place { IsBoardPass world.now.board.turnstile.table canceller.old }
     requires book { IsBookOf world.now.hall.catalogue world.now.recipes }
-    ensures ready { MayAllServe S.told S.faults (place_of world.now (table_of queue.now.links)) workers.new }
+    ensures ready { MayAllServe S.told (place_of world.now (table_of queue.now.links)) workers.new }
     ensures runner { idles.IsStandbyReady world.now.board.turnstile.table world.now.hall.turnstile.table world.now.hall.catalogue runner.new }
     ensures runs { RunsAll world.now.hall.catalogue runner.old runner.new }
     ensures worked { (first : HallPass) (before : QueueHand L)
-        → HaveServedSince S.told S.faults (service_of L.left L.taken L.ByteSource.faults L.ByteSink.faults world.now first) before workers.old
-        → HaveServedSince S.told S.faults (service_of L.left L.taken L.ByteSource.faults L.ByteSink.faults world.now first) before workers.new }
+        → HaveServedSince S.told (service_of L.left L.taken L.ByteSource.faults L.ByteSink.faults S.faults S.gave world.now first) before workers.old
+        → HaveServedSince S.told (service_of L.left L.taken L.ByteSource.faults L.ByteSink.faults S.faults S.gave world.now first) before workers.new }
     ensures place { IsBoardPass world.now.board.turnstile.table canceller.new }
     ensures stops { HasStoppedTo 1024 canceller.old canceller.new }
 {
@@ -132,11 +132,11 @@ fn work_and_run<
             ensures runs { RunsAll world.entry.now.hall.catalogue runner.entry.now runner.exit.now }
         { run_jobs(rt, alloc, &world.hall, &world.board, is_over, runner) },
         &mut ||
-            requires { IsValid world.now.hall.catalogue × MayAllServe S.told S.faults (place_of world.now (table_of queue.now.links)) workers.now × IsBoardPass world.now.board.turnstile.table canceller.now × IsBookOf world.now.hall.catalogue world.now.recipes }
-            ensures ready { MayAllServe S.told S.faults (place_of world.entry.now (table_of queue.entry.now.links)) workers.exit.now }
+            requires { IsValid world.now.hall.catalogue × MayAllServe S.told (place_of world.now (table_of queue.now.links)) workers.now × IsBoardPass world.now.board.turnstile.table canceller.now × IsBookOf world.now.hall.catalogue world.now.recipes }
+            ensures ready { MayAllServe S.told (place_of world.entry.now (table_of queue.entry.now.links)) workers.exit.now }
             ensures worked { (first : HallPass) (before : QueueHand L)
-                → HaveServedSince S.told S.faults (service_of L.left L.taken L.ByteSource.faults L.ByteSink.faults world.entry.now first) before workers.entry.now
-                → HaveServedSince S.told S.faults (service_of L.left L.taken L.ByteSource.faults L.ByteSink.faults world.entry.now first) before workers.exit.now }
+                → HaveServedSince S.told (service_of L.left L.taken L.ByteSource.faults L.ByteSink.faults S.faults S.gave world.entry.now first) before workers.entry.now
+                → HaveServedSince S.told (service_of L.left L.taken L.ByteSource.faults L.ByteSink.faults S.faults S.gave world.entry.now first) before workers.exit.now }
             ensures place { IsBoardPass world.entry.now.board.turnstile.table canceller.exit.now }
             ensures stops { HasStoppedTo 1024 canceller.entry.now canceller.exit.now }
         { work_all(rt, alloc, world, queue, is_over, workers, canceller) },
@@ -155,19 +155,19 @@ fn serve_all<
     G: JobGate + Send,
 >(rt: &R, alloc: Global, world: &World<K>, queue: &LinkQueue<L>, crew: &mut Crew<K, S, L, G>)
     requires valid { IsValid world.now.hall.catalogue }
-    requires ready { MayAllServe S.told S.faults (place_of world.now (table_of queue.now.links)) crew.old.workers.items }
+    requires ready { MayAllServe S.told (place_of world.now (table_of queue.now.links)) crew.old.workers.items }
     requires upkeep { IsPassOf world.now.hall.turnstile.table world.now.hall.catalogue crew.old.upkeep }
     requires runner { idles.IsStandbyReady world.now.board.turnstile.table world.now.hall.turnstile.table world.now.hall.catalogue crew.old.runner }
     requires place { IsBoardPass world.now.board.turnstile.table crew.old.canceller }
     requires book { IsBookOf world.now.hall.catalogue world.now.recipes }
-    ensures ready { MayAllServe S.told S.faults (place_of world.now (table_of queue.now.links)) crew.new.workers.items }
+    ensures ready { MayAllServe S.told (place_of world.now (table_of queue.now.links)) crew.new.workers.items }
     ensures upkeep { IsPassOf world.now.hall.turnstile.table world.now.hall.catalogue crew.new.upkeep }
     ensures keeps { HasKeptUp world.now.hall.catalogue crew.old.upkeep crew.new.upkeep }
     ensures runner { idles.IsStandbyReady world.now.board.turnstile.table world.now.hall.turnstile.table world.now.hall.catalogue crew.new.runner }
     ensures runs { RunsAll world.now.hall.catalogue crew.old.runner crew.new.runner }
     ensures worked { (first : HallPass) (before : QueueHand L)
-        → HaveServedSince S.told S.faults (service_of L.left L.taken L.ByteSource.faults L.ByteSink.faults world.now first) before crew.old.workers.items
-        → HaveServedSince S.told S.faults (service_of L.left L.taken L.ByteSource.faults L.ByteSink.faults world.now first) before crew.new.workers.items }
+        → HaveServedSince S.told (service_of L.left L.taken L.ByteSource.faults L.ByteSink.faults S.faults S.gave world.now first) before crew.old.workers.items
+        → HaveServedSince S.told (service_of L.left L.taken L.ByteSource.faults L.ByteSink.faults S.faults S.gave world.now first) before crew.new.workers.items }
     ensures each { length crew.new.workers.items ≡ length crew.old.workers.items }
     ensures place { IsBoardPass world.now.board.turnstile.table crew.new.canceller }
     ensures stops { HasStoppedTo 1024 crew.old.canceller crew.new.canceller }
@@ -195,13 +195,13 @@ fn serve_all<
             ensures keeps { HasKeptUp hall.entry.now.catalogue upkeep.entry.now upkeep.exit.now }
         { keep_up(rt, hall, shift, upkeep) },
         &mut ||
-            requires { IsValid world.now.hall.catalogue × MayAllServe S.told S.faults (place_of world.now (table_of queue.now.links)) workers.now × idles.IsStandbyReady world.now.board.turnstile.table world.now.hall.turnstile.table world.now.hall.catalogue runner.now × IsBoardPass world.now.board.turnstile.table canceller.now × IsBookOf world.now.hall.catalogue world.now.recipes }
-            ensures ready { MayAllServe S.told S.faults (place_of world.entry.now (table_of queue.entry.now.links)) workers.exit.now }
+            requires { IsValid world.now.hall.catalogue × MayAllServe S.told (place_of world.now (table_of queue.now.links)) workers.now × idles.IsStandbyReady world.now.board.turnstile.table world.now.hall.turnstile.table world.now.hall.catalogue runner.now × IsBoardPass world.now.board.turnstile.table canceller.now × IsBookOf world.now.hall.catalogue world.now.recipes }
+            ensures ready { MayAllServe S.told (place_of world.entry.now (table_of queue.entry.now.links)) workers.exit.now }
             ensures runner { idles.IsStandbyReady world.entry.now.board.turnstile.table world.entry.now.hall.turnstile.table world.entry.now.hall.catalogue runner.exit.now }
             ensures runs { RunsAll world.entry.now.hall.catalogue runner.entry.now runner.exit.now }
             ensures worked { (first : HallPass) (before : QueueHand L)
-                → HaveServedSince S.told S.faults (service_of L.left L.taken L.ByteSource.faults L.ByteSink.faults world.entry.now first) before workers.entry.now
-                → HaveServedSince S.told S.faults (service_of L.left L.taken L.ByteSource.faults L.ByteSink.faults world.entry.now first) before workers.exit.now }
+                → HaveServedSince S.told (service_of L.left L.taken L.ByteSource.faults L.ByteSink.faults S.faults S.gave world.entry.now first) before workers.entry.now
+                → HaveServedSince S.told (service_of L.left L.taken L.ByteSource.faults L.ByteSink.faults S.faults S.gave world.entry.now first) before workers.exit.now }
             ensures place { IsBoardPass world.entry.now.board.turnstile.table canceller.exit.now }
             ensures stops { HasStoppedTo 1024 canceller.entry.now canceller.exit.now }
         { work_and_run(rt, alloc, world, queue, shift, workers, runner, canceller) },
@@ -228,7 +228,7 @@ fn accept_and_serve<
 where
     N::L: Send,
     requires valid { IsValid world.now.hall.catalogue }
-    requires ready { MayAllServe S.told S.faults (place_of world.now (table_of queue.now.links)) staff.old.crew.workers.items }
+    requires ready { MayAllServe S.told (place_of world.now (table_of queue.now.links)) staff.old.crew.workers.items }
     requires upkeep { IsPassOf world.now.hall.turnstile.table world.now.hall.catalogue staff.old.crew.upkeep }
     requires runner { idles.IsStandbyReady world.now.board.turnstile.table world.now.hall.turnstile.table world.now.hall.catalogue staff.old.crew.runner }
     requires place { IsBoardPass world.now.board.turnstile.table staff.old.crew.canceller }
@@ -236,7 +236,7 @@ where
     requires parts { 0 < (view staff.old.acceptor).parts }
     requires book { IsBookOf world.now.hall.catalogue world.now.recipes }
     ensures accepted { HasAccepted (table_of queue.now.links) connections (view staff.old.acceptor) staff.new.acceptor (N.given listener.old) (N.given listener.new) (N.faults listener.old) (N.faults listener.new) result }
-    ensures ready { MayAllServe S.told S.faults (place_of world.now (table_of queue.now.links)) staff.new.crew.workers.items }
+    ensures ready { MayAllServe S.told (place_of world.now (table_of queue.now.links)) staff.new.crew.workers.items }
     ensures upkeep { IsPassOf world.now.hall.turnstile.table world.now.hall.catalogue staff.new.crew.upkeep }
     ensures keeps { HasKeptUp world.now.hall.catalogue staff.old.crew.upkeep staff.new.crew.upkeep }
     ensures runner { idles.IsStandbyReady world.now.board.turnstile.table world.now.hall.turnstile.table world.now.hall.catalogue staff.new.crew.runner }
@@ -245,8 +245,8 @@ where
     ensures place { IsBoardPass world.now.board.turnstile.table staff.new.crew.canceller }
     ensures stops { HasStoppedTo 1024 staff.old.crew.canceller staff.new.crew.canceller }
     ensures worked { (first : HallPass) (before : QueueHand N.L)
-        → HaveServedSince S.told S.faults (service_of N.L.left N.L.taken N.L.ByteSource.faults N.L.ByteSink.faults world.now first) before staff.old.crew.workers.items
-        → HaveServedSince S.told S.faults (service_of N.L.left N.L.taken N.L.ByteSource.faults N.L.ByteSink.faults world.now first) before staff.new.crew.workers.items }
+        → HaveServedSince S.told (service_of N.L.left N.L.taken N.L.ByteSource.faults N.L.ByteSink.faults S.faults S.gave world.now first) before staff.old.crew.workers.items
+        → HaveServedSince S.told (service_of N.L.left N.L.taken N.L.ByteSource.faults N.L.ByteSink.faults S.faults S.gave world.now first) before staff.new.crew.workers.items }
 {
     is_shared::<Tables>();
     let Staff { crew, acceptor } = staff;
@@ -256,11 +256,11 @@ where
     let ((), all) = join_mut(
         rt,
         &mut ||
-            requires { IsValid world.now.hall.catalogue × MayAllServe S.told S.faults (place_of world.now (table_of queue.now.links)) crew.now.workers.items × IsPassOf world.now.hall.turnstile.table world.now.hall.catalogue crew.now.upkeep × idles.IsStandbyReady world.now.board.turnstile.table world.now.hall.turnstile.table world.now.hall.catalogue crew.now.runner × IsBoardPass world.now.board.turnstile.table crew.now.canceller × IsBookOf world.now.hall.catalogue world.now.recipes }
-            ensures ready { MayAllServe S.told S.faults (place_of world.entry.now (table_of queue.entry.now.links)) crew.exit.now.workers.items }
+            requires { IsValid world.now.hall.catalogue × MayAllServe S.told (place_of world.now (table_of queue.now.links)) crew.now.workers.items × IsPassOf world.now.hall.turnstile.table world.now.hall.catalogue crew.now.upkeep × idles.IsStandbyReady world.now.board.turnstile.table world.now.hall.turnstile.table world.now.hall.catalogue crew.now.runner × IsBoardPass world.now.board.turnstile.table crew.now.canceller × IsBookOf world.now.hall.catalogue world.now.recipes }
+            ensures ready { MayAllServe S.told (place_of world.entry.now (table_of queue.entry.now.links)) crew.exit.now.workers.items }
             ensures worked { (first : HallPass) (before : QueueHand N.L)
-                → HaveServedSince S.told S.faults (service_of N.L.left N.L.taken N.L.ByteSource.faults N.L.ByteSink.faults world.entry.now first) before crew.entry.now.workers.items
-                → HaveServedSince S.told S.faults (service_of N.L.left N.L.taken N.L.ByteSource.faults N.L.ByteSink.faults world.entry.now first) before crew.exit.now.workers.items }
+                → HaveServedSince S.told (service_of N.L.left N.L.taken N.L.ByteSource.faults N.L.ByteSink.faults S.faults S.gave world.entry.now first) before crew.entry.now.workers.items
+                → HaveServedSince S.told (service_of N.L.left N.L.taken N.L.ByteSource.faults N.L.ByteSink.faults S.faults S.gave world.entry.now first) before crew.exit.now.workers.items }
             ensures upkeep { IsPassOf world.entry.now.hall.turnstile.table world.entry.now.hall.catalogue crew.exit.now.upkeep }
             ensures keeps { HasKeptUp world.entry.now.hall.catalogue crew.entry.now.upkeep crew.exit.now.upkeep }
             ensures runner { idles.IsStandbyReady world.entry.now.board.turnstile.table world.entry.now.hall.turnstile.table world.entry.now.hall.catalogue crew.exit.now.runner }
@@ -306,7 +306,7 @@ pub(crate) fn serve_links<
 where
     N::L: Send,
     requires valid { IsValid world.now.hall.catalogue }
-    requires ready { MayAllServe S.told S.faults (place_of world.now (table_of queue.now.links)) staff.crew.workers.items }
+    requires ready { MayAllServe S.told (place_of world.now (table_of queue.now.links)) staff.crew.workers.items }
     requires upkeep { IsPassOf world.now.hall.turnstile.table world.now.hall.catalogue staff.crew.upkeep }
     requires runner { idles.IsStandbyReady world.now.board.turnstile.table world.now.hall.turnstile.table world.now.hall.catalogue staff.crew.runner }
     requires place { IsBoardPass world.now.board.turnstile.table staff.crew.canceller }
@@ -318,9 +318,9 @@ where
     ensures of { All (λ p. p.table ≡ world.now.hall.turnstile.table) result.passes.items }
     ensures count { length result.passes.items ≡ WORKERS + 1 + MEMBERS }
     ensures upkeep { IsKeptUpBy world.now.hall.catalogue staff.crew.upkeep result.passes.items }
-    ensures served { (j : HasRunOn world.now.hall.catalogue staff.crew.runner) × (k : HasCancelledOn staff.crew.canceller) × ((p : HallPass) → Contains (passes_of j.after.idle) p → Contains result.passes.items p) × ((first : HallPass)
-        → HaveServedSince S.told S.faults (service_of N.L.left N.L.taken N.L.ByteSource.faults N.L.ByteSink.faults world.now first) (hand 1 [] []) staff.crew.workers.items
-        → HasServedLinks (service_of N.L.left N.L.taken N.L.ByteSource.faults N.L.ByteSink.faults world.now first) connections (N.given listener.old) (N.given listener.new) (N.faults listener.old) (N.faults listener.new) result.passes.items j.between j.heard k.heard result.all) }
+    ensures served { (j : HasRunOn world.now.hall.catalogue staff.crew.runner) × (k : HasCancelledOn staff.crew.canceller) × ((p : HallPass) → Contains (passes_of j.after.idle) p → Contains result.passes.items p) × AreOfSources S.faults S.gave j.after.idle × ((first : HallPass)
+        → HaveServedSince S.told (service_of N.L.left N.L.taken N.L.ByteSource.faults N.L.ByteSink.faults S.faults S.gave world.now first) (hand 1 [] []) staff.crew.workers.items
+        → HasServedLinks (service_of N.L.left N.L.taken N.L.ByteSource.faults N.L.ByteSink.faults S.faults S.gave world.now first) connections (N.given listener.old) (N.given listener.new) (N.faults listener.old) (N.faults listener.new) result.passes.items j.between j.heard k.heard result.all) }
 {
     let mut staff = staff;
     let all = accept_and_serve(rt, alloc, connections, world, queue, &mut staff, listener);

@@ -47,12 +47,12 @@ pub(crate) fn work<R: Wait + Clock, K: Keeper, S: Source, L: Link>(
     worker: &mut Worker<K, S, L>,
 )
     requires valid { IsValid world.now.hall.catalogue }
-    requires ready { MayServe (place_of world.now (table_of queue.now.links)) (worker_of S.told S.faults worker.old) }
+    requires ready { MayServe (place_of world.now (table_of queue.now.links)) (worker_of S.told worker.old) }
     requires book { IsBookOf world.now.hall.catalogue world.now.recipes }
-    ensures ready { MayServe (place_of world.now (table_of queue.now.links)) (worker_of S.told S.faults worker.new) }
+    ensures ready { MayServe (place_of world.now (table_of queue.now.links)) (worker_of S.told worker.new) }
     ensures worked { (first : HallPass) (before : QueueHand L)
-        → HasServedSince (service_of L.left L.taken L.ByteSource.faults L.ByteSink.faults world.now first) before (worker_of S.told S.faults worker.old)
-        → HasServedSince (service_of L.left L.taken L.ByteSource.faults L.ByteSink.faults world.now first) before (worker_of S.told S.faults worker.new) }
+        → HasServedSince (service_of L.left L.taken L.ByteSource.faults L.ByteSink.faults S.faults S.gave world.now first) before (worker_of S.told worker.old)
+        → HasServedSince (service_of L.left L.taken L.ByteSource.faults L.ByteSink.faults S.faults S.gave world.now first) before (worker_of S.told worker.new) }
     ensures all { (view worker.new.hand).parts ≡ all_parts → IsEven (view worker.new.hand) }
 {
     'working: for _ in rt.forever() {

@@ -1,4 +1,5 @@
 use Rattle.std.proofs.Common.{refl}
+use Rattle.source_render.proofs.Staying.{stays_itself}
 use Rattle.hall_sessions.proofs.Composed.{composition_served, served_at_once}
 use Rattle.hall_sessions.proofs.composites.serve_composite.Goals as goal
 
@@ -13,3 +14,12 @@ returns-in-NotFound-clause-serves g c = rw c.in-NotFound.is (served_at_once _ _ 
 
 pub returns-in-WrongMethod-clause-serves : goal.returns-in-WrongMethod-clause-serves
 returns-in-WrongMethod-clause-serves g c = rw c.in-WrongMethod.is (served_at_once _ _ _ _ _ _ _ (refl, refl) (λ failed. absurd (cc)))
+
+pub returns-in-Refused-clause-grows : goal.returns-in-Refused-clause-grows
+returns-in-Refused-clause-grows g c = stays_itself (g.S.Source.gave c.args.source.now)
+
+pub returns-in-NotFound-clause-grows : goal.returns-in-NotFound-clause-grows
+returns-in-NotFound-clause-grows g c = stays_itself (g.S.Source.gave c.args.source.now)
+
+pub returns-in-WrongMethod-clause-grows : goal.returns-in-WrongMethod-clause-grows
+returns-in-WrongMethod-clause-grows g c = stays_itself (g.S.Source.gave c.args.source.now)

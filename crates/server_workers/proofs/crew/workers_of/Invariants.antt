@@ -11,7 +11,7 @@ invariant-hiring g l = record {
   sources : length l.supplies.sources.items + l.counter ≡ length l.initial.supplies.sources.items;
   workers : length l.workers.items ≡ l.counter;
   mine : IsHand (table_of l.queue.links) (hand (all_parts - l.counter) [] []) l.mine;
-  new : (s : Service g.row.L.Denot) → AreSupplies s g.S.Source.told l.initial.supplies.passes.items l.initial.supplies.boards.items l.initial.supplies.sources.items
+  new : (s : Service g.row.L.Denot g.row.S.Denot) → AreSupplies s g.S.Source.told l.initial.supplies.passes.items l.initial.supplies.boards.items l.initial.supplies.sources.items
       → All (λ w. IsNew (table_of l.queue.links) s (g.S.Source.told w.source) w.pass w.board w.hand) l.workers.items
       × AreSupplies s g.S.Source.told l.supplies.passes.items l.supplies.boards.items l.supplies.sources.items;
 }

@@ -34,7 +34,7 @@ gathering-preserved g c =
       room = c.push_reserved.ensures.capacity ∙ i.room;
       gathered = λ s began others.
           let had = i.gathered s began others in
-          let w = popped (λ w. HasHeldSessions s (hand 1 [] []) w.pass w.board (g.S.Source.faults w.source) w.hand) c.gathering.others.items c.pop.new.self.items other c.in-Some.ensures.items had.0 in
+          let w = popped (λ w. HasHeldSessions s (hand 1 [] []) w.pass w.board w.source w.hand) c.gathering.others.items c.pop.new.self.items other c.in-Some.ensures.items had.0 in
           (w.0, rw c.push_reserved.ensures.items (gather_goes_on s _ _ _ last.pass other.pass _ _ _ _ last.hand other.hand c.take_over.new.mine c.gathering.passes.items c.args.runner.now c.gathering.runner c.hear.new.self left had.1 w.1 c.hear.ensures.heard c.take_over.ensures.knows));
       runner = ready_heard _ _ _ c.gathering.runner c.hear.new.self _ i.runner c.hear.ensures.heard;
     }

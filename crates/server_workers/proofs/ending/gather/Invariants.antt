@@ -14,10 +14,10 @@ invariant-gathering g l = record {
   of : All (λ p. p.table ≡ l.world.hall.turnstile.table) l.passes.items;
   count : length l.passes.items + length l.others.items ≡ length l.fn.others.items;
   room : vec_capacity l.passes ≡ vec_capacity l.initial.passes;
-  gathered : (s : Service g.row.L.Denot) → HasHeldSessions s (hand 1 [] []) l.initial.last.pass l.initial.last.board (g.S.Source.faults l.initial.last.source) l.initial.last.hand
-      → All (λ w. HasHeldSessions s (hand 1 [] []) w.pass w.board (g.S.Source.faults w.source) w.hand) l.fn.others.items
-      → All (λ w. HasHeldSessions s (hand 1 [] []) w.pass w.board (g.S.Source.faults w.source) w.hand) l.others.items
-      × Gather s (length l.fn.others.items) (length l.others.items) l.last.pass l.last.board (g.S.Source.faults l.last.source) l.last.hand l.passes.items l.initial.runner l.runner;
+  gathered : (s : Service g.row.L.Denot g.row.S.Denot) → HasHeldSessions s (hand 1 [] []) l.initial.last.pass l.initial.last.board l.initial.last.source l.initial.last.hand
+      → All (λ w. HasHeldSessions s (hand 1 [] []) w.pass w.board w.source w.hand) l.fn.others.items
+      → All (λ w. HasHeldSessions s (hand 1 [] []) w.pass w.board w.source w.hand) l.others.items
+      × Gather s (length l.fn.others.items) (length l.others.items) l.last.pass l.last.board l.last.source l.last.hand l.passes.items l.initial.runner l.runner;
   runner : idles.IsStandbyReady l.world.board.turnstile.table l.world.hall.turnstile.table l.world.hall.catalogue l.runner;
 }
 

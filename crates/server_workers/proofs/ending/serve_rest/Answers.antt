@@ -10,9 +10,9 @@ use Rattle.server_workers.proofs.ending.serve_rest.Goals as goal
 
 pub returns-clause-served : goal.returns-clause-served
 returns-clause-served g c = λ first all.
-    let s : Service g.row.L.Denot = serving g.L.ByteSource.left g.L.ByteSink.taken g.L.ByteSource.faults g.L.ByteSink.faults c.args.world.now.capabilities c.args.world.now.hall.catalogue c.args.world.now.recipes c.args.world.now.board.turnstile.table first in
+    let s : Service g.row.L.Denot g.row.S.Denot = serving g.L.ByteSource.left g.L.ByteSink.taken g.L.ByteSource.faults g.L.ByteSink.faults g.S.Source.faults g.S.Source.gave c.args.world.now.capabilities c.args.world.now.hall.catalogue c.args.world.now.recipes c.args.world.now.board.turnstile.table first in
     let mine = view c.args.mine in
-    let w = popped (λ w. HasHeldSessions s (hand 1 [] []) w.pass w.board (g.S.Source.faults w.source) w.hand) c.args.workers.items c.pop.new.self.items c.in-Some.last c.in-Some.ensures.items all in
+    let w = popped (λ w. HasHeldSessions s (hand 1 [] []) w.pass w.board w.source w.hand) c.args.workers.items c.pop.new.self.items c.in-Some.last c.in-Some.ensures.items all in
     let gathered = c.gather.ensures.gathered s w.1 w.0 in
     let over = gathers_put s _ mine.parts mine.put _ _ _ c.gather.new.last.hand c.args.mine c.take_over.new.mine _ _ _ gathered (ap (hand mine.parts mine.put) c.requires.none) c.take_over.ensures.knows in
     let worked = c.work.ensures.worked first _ over in

@@ -40,8 +40,9 @@ returns-clause-served g c = (
     stops_again = c.cancel_all.ensures.stops;
   },
   idle_among c.push_reserved.new.self.items c.into_passes.result.items c.run_jobs.new.runner.idle c.into_passes.ensures.items,
+  c.into_passes.ensures.sources,
   λ first all.
-      let s : Service g.row.N-L.Denot = serving g.N.L.ByteSource.left g.N.L.ByteSink.taken g.N.L.ByteSource.faults g.N.L.ByteSink.faults c.args.world.now.capabilities c.args.world.now.hall.catalogue c.args.world.now.recipes c.args.world.now.board.turnstile.table first in
+      let s : Service g.row.N-L.Denot g.row.S.Denot = serving g.N.L.ByteSource.left g.N.L.ByteSink.taken g.N.L.ByteSource.faults g.N.L.ByteSink.faults g.S.Source.faults g.S.Source.gave c.args.world.now.capabilities c.args.world.now.hall.catalogue c.args.world.now.recipes c.args.world.now.board.turnstile.table first in
       let a = c.accept_and_serve-all.ensures.accepted in
       let worked = c.accept_and_serve-all.ensures.worked first (hand 1 [] []) all in
       let put = ap (λ v. v.put) a.put.knows ∙ ap (λ v. v.put ++ a.links) c.requires.acceptor.knows in
