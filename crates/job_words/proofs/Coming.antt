@@ -49,6 +49,7 @@ use Rattle.tile_requests.specs.Requests.{calm}
 use Rattle.sessions.specs.Outside.{FaultCounts, counts}
 use Rattle.tile_service.specs.Session.{IsAtRest}
 use Rattle.tile_service.proofs.AtRest.{IsDone}
+use Rattle.source_render.specs.Renders.{GivenImage, Renders, renders}
 use Rattle.truncation_list.specs.declared.book.FrontedBook.{FrontedBook}
 use Rattle.truncation_list.specs.declared.cover.Cover.{Cover}
 use Rattle.turnstile.specs.declared.view.Made.{Made}
@@ -217,19 +218,19 @@ module _ (told : Option ℕ) (before after : ℕ) (x y : Shown) (job : Job) (res
       → (o : cached.TileOutcome) × RunsTo before after x.faults y.faults x.state (first_tile x.state.catalogue m) force o y.state × RefreshEndsAs result o
 
   module _ (refreshes : RefreshesSo) (metas : (m : MetaKey) → Contains (places x.state.catalogue job) (Metatile m) → IsMeta x.state.catalogue m) (still : told ≡ Some x.state.catalogue.source → IsSound x.state → IsSound y.state)
-      (place : ℕ) (sees : FrontedBook) (gained : List (Made Note)) (steps : AreSteps x.state.catalogue x gained y) (end : PlaceEnd) where
+      (place : ℕ) (sees : FrontedBook) (first last : List GivenImage) (gained : List (Made Note)) (steps : AreSteps x.state.catalogue x gained y) (end : PlaceEnd) where
     abbrev visit : Visit
-    visit = visit_of place (fronted (now x.state)) sees before after gained end
+    visit = visit_of place (fronted (now x.state)) sees (renders before first) (renders after last) gained end
 
     comes_at : (p : Place) → slice_get (places x.state.catalogue job) place ≡ Some p → IsWorkAt x.state.catalogue Truth job.kind p visit → ComesTo told (counts before after) (counts x.faults y.faults) (forces job.kind) x.state p end y.state
     comes_at (Metatile m) at work =
         let force = forces job.kind in
-        let runs = refreshes m force gained work.answer (metas m (contains_at (places x.state.catalogue job) place (Metatile m) at)) steps work.came_to work.later (cause_of work.answer (Rose before after) work.cause) in
+        let runs = refreshes m force gained work.answer (metas m (contains_at (places x.state.catalogue job) place (Metatile m) at)) steps work.came_to work.goes_on.later (cause_of work.answer (Rose before after) work.cause) in
         subst (λ (e : PlaceEnd). ComesTo told (counts before after) (counts x.faults y.faults) force x.state (Metatile m) e y.state) (sym work.ended)
         (refresh_comes told (counts before after) (counts x.faults y.faults) force x.state m runs.0 y.state rest (carries before after x.faults y.faults x.state (first_tile x.state.catalogue m) force runs.0 y.state runs.1) (end_of_refresh work.answer) (same_end y.state work.answer runs.0 runs.2 (came_keeps x.state.catalogue y Truth m force (fronted (now x.state)) x gained work.answer steps work.came_to)) still)
     comes_at (Cut cover) at work =
         subst (λ (e : PlaceEnd). ComesTo told (counts before after) (counts x.faults y.faults) (forces job.kind) x.state (Cut cover) e y.state) (sym work.0.2)
-        (cut_comes told before after x y (forces job.kind) cover work.0.0 rest work.1 (cut_so x y cover gained work.0.0 work.0.1 steps) still)
+        (cut_comes told before after x y (forces job.kind) cover work.0.0 rest (ap (λ (r : Renders). r.failures) work.1) (cut_so x y cover gained work.0.0 work.0.1 steps) still)
 
     pub visit_comes : IsVisit x.state.catalogue Truth job visit → (p : Place) × (slice_get (places x.state.catalogue job) place ≡ Some p) × ComesTo told (counts before after) (counts x.faults y.faults) (forces job.kind) x.state p end y.state
     visit_comes h = (h.at, h.is_place, comes_at h.at h.is_place h.work)

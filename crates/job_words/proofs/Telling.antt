@@ -1,5 +1,5 @@
 -- What the word tells of the run of a job.
-use Rattle.std.proofs.Common.{ℕ, ◌≡◌, ◌≤◌, List, map, Option, subst}
+use Rattle.std.proofs.Common.{ℕ, ◌≡◌, ◌≤◌, List, map, Option, ap, subst}
 use Rattle.cabinet.specs.State.{State}
 use Rattle.catalog.specs.declared.catalogue.Catalogue.{Catalogue}
 use Rattle.base.specs.Readings.{Readings}
@@ -38,27 +38,27 @@ runs_and_saves told renders before start mid after job visits s t u earlier late
 -- THE TEXT, by how its writing ended
 
 told_so : (c : Catalogue) (clock : Readings) (job : Job) (o : Outside) (d : DiskChange) (Stays : Type 0) (s u : State) (visits : List LoneVisit)
-    → HasOpened c clock d s u → RunsAndSaves o.told o.renders o.disk job visits s u → (e : Status) → Sends (output_of o) (job_text job.kind (tally_of (map (λ v. v.end) visits))) e
-    → IsDoneSo c clock job o d Stays e
-told_so c clock job o d Stays s u visits h runs status.Done sends = (s, u, h, visits, runs, sends)
-told_so c clock job o d Stays s u visits h runs status.WriteFault sends = (s, u, h, visits, runs, sends)
-told_so c clock job o d Stays s u visits h runs status.ReadFault sends = absurd sends
-told_so c clock job o d Stays s u visits h runs status.TooLong sends = absurd sends
-told_so c clock job o d Stays s u visits h runs (status.Form cause) sends = absurd sends
-told_so c clock job o d Stays s u visits h runs (status.Cache cause) sends = absurd sends
-told_so c clock job o d Stays s u visits h runs status.DiskFault sends = absurd sends
-told_so c clock job o d Stays s u visits h runs status.CutsFull sends = absurd sends
-told_so c clock job o d Stays s u visits h runs (status.Line n) sends = absurd sends
-told_so c clock job o d Stays s u visits h runs (status.Stream session) sends = absurd sends
-told_so c clock job o d Stays s u visits h runs status.OutOfMemory sends = absurd sends
-told_so c clock job o d Stays s u visits h runs status.Usage sends = absurd sends
-told_so c clock job o d Stays s u visits h runs (status.Catalogue fault) sends = absurd sends
-told_so c clock job o d Stays s u visits h runs status.ListenFault sends = absurd sends
-told_so c clock job o d Stays s u visits h runs status.ThreadFault sends = absurd sends
+    → HasOpened c clock d s u → RunsAndSaves o.told o.renders o.disk job visits s u → (unkept : ℕ) → unkept ≡ (tally_of (map (λ v. v.end) visits)).unkept → (e : Status) → Sends (output_of o) (job_text job.kind (tally_of (map (λ v. v.end) visits))) e
+    → IsDoneSo c clock job o d Stays unkept e
+told_so c clock job o d Stays s u visits h runs unkept counted status.Done sends = (s, u, h, visits, runs, counted, sends)
+told_so c clock job o d Stays s u visits h runs unkept counted status.WriteFault sends = (s, u, h, visits, runs, counted, sends)
+told_so c clock job o d Stays s u visits h runs unkept counted status.ReadFault sends = absurd sends
+told_so c clock job o d Stays s u visits h runs unkept counted status.TooLong sends = absurd sends
+told_so c clock job o d Stays s u visits h runs unkept counted (status.Form cause) sends = absurd sends
+told_so c clock job o d Stays s u visits h runs unkept counted (status.Cache cause) sends = absurd sends
+told_so c clock job o d Stays s u visits h runs unkept counted status.DiskFault sends = absurd sends
+told_so c clock job o d Stays s u visits h runs unkept counted status.CutsFull sends = absurd sends
+told_so c clock job o d Stays s u visits h runs unkept counted (status.Line n) sends = absurd sends
+told_so c clock job o d Stays s u visits h runs unkept counted (status.Stream session) sends = absurd sends
+told_so c clock job o d Stays s u visits h runs unkept counted status.OutOfMemory sends = absurd sends
+told_so c clock job o d Stays s u visits h runs unkept counted status.Usage sends = absurd sends
+told_so c clock job o d Stays s u visits h runs unkept counted (status.Catalogue fault) sends = absurd sends
+told_so c clock job o d Stays s u visits h runs unkept counted status.ListenFault sends = absurd sends
+told_so c clock job o d Stays s u visits h runs unkept counted status.ThreadFault sends = absurd sends
 
--- the tally that was written is that of the visits
+-- the tally that was written is that of the visits, and so is the count that was handed on
 pub job_tells : (c : Catalogue) (clock : Readings) (job : Job) (o : Outside) (d : DiskChange) (Stays : Type 0) (s u : State) (visits : List LoneVisit)
     → HasOpened c clock d s u → RunsAndSaves o.told o.renders o.disk job visits s u → (tally : Tally) → tally ≡ tally_of (map (λ v. v.end) visits) → (e : Status) → Sends (output_of o) (job_text job.kind tally) e
-    → IsDoneSo c clock job o d Stays e
+    → IsDoneSo c clock job o d Stays tally.unkept e
 job_tells c clock job o d Stays s u visits h runs tally same e sends =
-    told_so c clock job o d Stays s u visits h runs e (subst (λ t. Sends (output_of o) (job_text job.kind t) e) same sends)
+    told_so c clock job o d Stays s u visits h runs tally.unkept (ap (λ (t : Tally). t.unkept) same) e (subst (λ t. Sends (output_of o) (job_text job.kind t) e) same sends)

@@ -46,50 +46,52 @@ pub record RunsAndSaves (told : Option ℕ) (renders disk : FaultCounts) (job : 
 abbrev pub output_of : Outside → OutputChange
 output_of o = record { writes = o.writes; from = o.from; to = o.to }
 
--- the cache was opened, the job was run, the uses were saved and the cache was closed; and this holds of the text of the tally
-abbrev pub HasRun : Catalogue → Readings → Job → Outside → DiskChange → (List ℕ → Type 0) → Type 0
-HasRun c clock job o d Written =
-    (s : State) × (u : State) × HasOpened c clock d s u × (visits : List LoneVisit) × RunsAndSaves o.told o.renders o.disk job visits s u × Written (job_text job.kind (tally_of (map (λ v. v.end) visits)))
+-- the cache was opened, the job was run, the uses were saved and the cache was closed; so many places were rendered and could not be kept, and
+-- this holds of the text of the tally
+abbrev pub HasRun : Catalogue → Readings → Job → Outside → DiskChange → ℕ → (List ℕ → Type 0) → Type 0
+HasRun c clock job o d unkept Written =
+    (s : State) × (u : State) × HasOpened c clock d s u × (visits : List LoneVisit) × RunsAndSaves o.told o.renders o.disk job visits s u
+    × (unkept ≡ (tally_of (map (λ v. v.end) visits)).unkept) × Written (job_text job.kind (tally_of (map (λ v. v.end) visits)))
 
 -- THE ENDS
 
--- What each end says of a job that was read. `Stays` is that the output and the source stay as they are. No fault of the disk ends the run
--- of a job.
-abbrev pub IsDoneSo : Catalogue → Readings → Job → Outside → DiskChange → Type 0 → Status → Type 0
-IsDoneSo c clock job o d Stays status.Done = HasRun c clock job o d (HasWritten (output_of o))
-IsDoneSo c clock job o d Stays status.WriteFault = HasRun c clock job o d (IsCutShort (output_of o))
-IsDoneSo c clock job o d Stays (status.Cache cause) = IsRefused c d cause × Stays × RefusalLeaves c d cause
-IsDoneSo c clock job o d Stays status.DiskFault = HasFailed d × Stays × OpeningLeaves c d
-IsDoneSo c clock job o d Stays status.OutOfMemory = Stays × OpeningLeaves c d
-IsDoneSo c clock job o d Stays status.ReadFault = ⊥
-IsDoneSo c clock job o d Stays status.TooLong = ⊥
-IsDoneSo c clock job o d Stays (status.Form cause) = ⊥
-IsDoneSo c clock job o d Stays status.CutsFull = ⊥
-IsDoneSo c clock job o d Stays (status.Line n) = ⊥
-IsDoneSo c clock job o d Stays (status.Stream session) = ⊥
-IsDoneSo c clock job o d Stays status.Usage = ⊥
-IsDoneSo c clock job o d Stays (status.Catalogue fault) = ⊥
-IsDoneSo c clock job o d Stays status.ListenFault = ⊥
-IsDoneSo c clock job o d Stays status.ThreadFault = ⊥
+-- What each end says of a job that was read, and of the count of its places that could not be kept, which is 0 where it wasn't run. `Stays` is that
+-- the output and the source stay as they are. No fault of the disk ends the run of a job.
+abbrev pub IsDoneSo : Catalogue → Readings → Job → Outside → DiskChange → Type 0 → ℕ → Status → Type 0
+IsDoneSo c clock job o d Stays unkept status.Done = HasRun c clock job o d unkept (HasWritten (output_of o))
+IsDoneSo c clock job o d Stays unkept status.WriteFault = HasRun c clock job o d unkept (IsCutShort (output_of o))
+IsDoneSo c clock job o d Stays unkept (status.Cache cause) = IsRefused c d cause × Stays × RefusalLeaves c d cause × (unkept ≡ 0)
+IsDoneSo c clock job o d Stays unkept status.DiskFault = HasFailed d × Stays × OpeningLeaves c d × (unkept ≡ 0)
+IsDoneSo c clock job o d Stays unkept status.OutOfMemory = Stays × OpeningLeaves c d × (unkept ≡ 0)
+IsDoneSo c clock job o d Stays unkept status.ReadFault = ⊥
+IsDoneSo c clock job o d Stays unkept status.TooLong = ⊥
+IsDoneSo c clock job o d Stays unkept (status.Form cause) = ⊥
+IsDoneSo c clock job o d Stays unkept status.CutsFull = ⊥
+IsDoneSo c clock job o d Stays unkept (status.Line n) = ⊥
+IsDoneSo c clock job o d Stays unkept (status.Stream session) = ⊥
+IsDoneSo c clock job o d Stays unkept status.Usage = ⊥
+IsDoneSo c clock job o d Stays unkept (status.Catalogue fault) = ⊥
+IsDoneSo c clock job o d Stays unkept status.ListenFault = ⊥
+IsDoneSo c clock job o d Stays unkept status.ThreadFault = ⊥
 
 -- the input had a job, and its run ended so
-abbrev pub RunsRead : Catalogue → Readings → InputChange → Outside → DiskChange → Type 0 → Status → Type 0
-RunsRead c clock i o d Stays e = (job : Job) × IsJobIn c i job × IsDoneSo c clock job o d Stays e
+abbrev pub RunsRead : Catalogue → Readings → InputChange → Outside → DiskChange → Type 0 → ℕ → Status → Type 0
+RunsRead c clock i o d Stays unkept e = (job : Job) × IsJobIn c i job × IsDoneSo c clock job o d Stays unkept e
 
--- before the job is read to its end the disk stays as it is
-abbrev pub RunsJob : Catalogue → Readings → InputChange → Outside → DiskChange → Type 0 → Type 0 → Status → Type 0
-RunsJob c clock i o d DiskStays Stays status.ReadFault = Rose i.reads.before i.reads.after × DiskStays × Stays
-RunsJob c clock i o d DiskStays Stays status.TooLong = IsTooLong i × DiskStays × Stays
-RunsJob c clock i o d DiskStays Stays (status.Form cause) = IsFormedSo c i cause × DiskStays × Stays
-RunsJob c clock i o d DiskStays Stays status.OutOfMemory = (DiskStays × Stays) ⊎ RunsRead c clock i o d Stays status.OutOfMemory
-RunsJob c clock i o d DiskStays Stays status.Done = RunsRead c clock i o d Stays status.Done
-RunsJob c clock i o d DiskStays Stays status.WriteFault = RunsRead c clock i o d Stays status.WriteFault
-RunsJob c clock i o d DiskStays Stays (status.Cache cause) = RunsRead c clock i o d Stays (status.Cache cause)
-RunsJob c clock i o d DiskStays Stays status.DiskFault = RunsRead c clock i o d Stays status.DiskFault
-RunsJob c clock i o d DiskStays Stays status.CutsFull = ⊥
-RunsJob c clock i o d DiskStays Stays (status.Line n) = ⊥
-RunsJob c clock i o d DiskStays Stays (status.Stream session) = ⊥
-RunsJob c clock i o d DiskStays Stays status.Usage = ⊥
-RunsJob c clock i o d DiskStays Stays (status.Catalogue fault) = ⊥
-RunsJob c clock i o d DiskStays Stays status.ListenFault = ⊥
-RunsJob c clock i o d DiskStays Stays status.ThreadFault = ⊥
+-- before the job is read to its end the disk stays as it is, and no place is counted
+abbrev pub RunsJob : Catalogue → Readings → InputChange → Outside → DiskChange → Type 0 → Type 0 → ℕ → Status → Type 0
+RunsJob c clock i o d DiskStays Stays unkept status.ReadFault = Rose i.reads.before i.reads.after × DiskStays × Stays × (unkept ≡ 0)
+RunsJob c clock i o d DiskStays Stays unkept status.TooLong = IsTooLong i × DiskStays × Stays × (unkept ≡ 0)
+RunsJob c clock i o d DiskStays Stays unkept (status.Form cause) = IsFormedSo c i cause × DiskStays × Stays × (unkept ≡ 0)
+RunsJob c clock i o d DiskStays Stays unkept status.OutOfMemory = (DiskStays × Stays × (unkept ≡ 0)) ⊎ RunsRead c clock i o d Stays unkept status.OutOfMemory
+RunsJob c clock i o d DiskStays Stays unkept status.Done = RunsRead c clock i o d Stays unkept status.Done
+RunsJob c clock i o d DiskStays Stays unkept status.WriteFault = RunsRead c clock i o d Stays unkept status.WriteFault
+RunsJob c clock i o d DiskStays Stays unkept (status.Cache cause) = RunsRead c clock i o d Stays unkept (status.Cache cause)
+RunsJob c clock i o d DiskStays Stays unkept status.DiskFault = RunsRead c clock i o d Stays unkept status.DiskFault
+RunsJob c clock i o d DiskStays Stays unkept status.CutsFull = ⊥
+RunsJob c clock i o d DiskStays Stays unkept (status.Line n) = ⊥
+RunsJob c clock i o d DiskStays Stays unkept (status.Stream session) = ⊥
+RunsJob c clock i o d DiskStays Stays unkept status.Usage = ⊥
+RunsJob c clock i o d DiskStays Stays unkept (status.Catalogue fault) = ⊥
+RunsJob c clock i o d DiskStays Stays unkept status.ListenFault = ⊥
+RunsJob c clock i o d DiskStays Stays unkept status.ThreadFault = ⊥

@@ -13,13 +13,14 @@ ghost use Rattle.sessions.specs.Outside.{InputChange, Outside, counts};
 ghost use Rattle.tile_service.specs.Session.{IsAtRest};
 
 use crate::input::job_in;
+use crate::job_end::JobEnd;
 use crate::running::run_places;
 use crate::text::told_tally;
 use base::Clock;
 use cabinet::Keeper;
 use cache_core::laws_of_lasting;
 use catalog::Catalogue;
-use command_status::{Status, status_of_opening};
+use command_status::status_of_opening;
 use disk_model::Disk;
 use http_wire::{ByteSink, ByteSource};
 use job_forms::Job;
@@ -30,7 +31,8 @@ use std::alloc::Global;
 use std::marker::Brand;
 
 /// Reads the job of the input, opens the cache of the disk, visits each place of the job, saves the uses of what is kept, and writes how
-/// many places are done and how many failed. A fault of the disk ends it at the opening alone. Each end comes as `RunsJob` says.
+/// many places are done and how many failed. How many of those done were rendered and could not be kept stands in its end alone. A fault of
+/// the disk ends it at the opening alone. Each end comes as `RunsJob` says.
 pub fn run_job<D: Disk, S: Source, I: ByteSource, O: ByteSink>(
     alloc: Global,
     catalogue: Catalogue,
@@ -39,14 +41,14 @@ pub fn run_job<D: Disk, S: Source, I: ByteSource, O: ByteSink>(
     disk: &mut D,
     source: &mut S,
     output: &mut O,
-) -> Status
+) -> JobEnd
     requires valid { IsValid catalogue }
     requires ours { IsTrue (D.told disk.old) → IsOurs catalogue (D.state disk.old).seen }
     ensures runs { RunsJob catalogue clock
         (record { reads = counts (I.faults input.old) (I.faults input.new); from = I.left input.old; to = I.left input.new })
         (record { told = S.told source.old; renders = counts (S.faults source.old) (S.faults source.new); disk = counts (D.faults disk.old) (D.faults disk.new); writes = counts (O.faults output.old) (O.faults output.new); from = O.taken output.old; to = O.taken output.new })
         (record { told = D.told disk.old; faults = counts (D.faults disk.old) (D.faults disk.new); from = D.state disk.old; to = D.state disk.new })
-        (disk.new ≡ disk.old) ((output.new ≡ output.old) × (source.new ≡ source.old)) result }
+        (disk.new ≡ disk.old) ((output.new ≡ output.old) × (source.new ≡ source.old)) result.unkept result.status }
     ensures lasts { LastsThrough catalogue (record { told = D.told disk.old; faults = counts (D.faults disk.old) (D.faults disk.new); from = D.state disk.old; to = D.state disk.new }) }
     ensures told { D.told disk.new ≡ D.told disk.old }
 {
@@ -54,7 +56,7 @@ pub fn run_job<D: Disk, S: Source, I: ByteSource, O: ByteSink>(
         Ok(job) => {
             run_over::<D, S, O, Brand>(alloc, catalogue, &job, clock, disk, source, output).1
         }
-        Err(end) => end,
+        Err(status) => JobEnd { status, unkept: 0 },
     }
 }
 
@@ -87,7 +89,7 @@ fn run_over<'a, D: Disk, S: Source, O: ByteSink, L: Loan>(
     disk: &'a mut D,
     source: &mut S,
     output: &mut O,
-) -> (&'a mut D, Status)
+) -> (&'a mut D, JobEnd)
     requires valid { IsValid catalogue }
     requires fits { Fits catalogue job.now }
     requires loan { disk.ghost_name ≡ L.disk }
@@ -95,7 +97,7 @@ fn run_over<'a, D: Disk, S: Source, O: ByteSink, L: Loan>(
     ensures runs { IsDoneSo catalogue clock job.now
         (record { told = S.told source.old; renders = counts (S.faults source.old) (S.faults source.new); disk = counts (D.faults disk.entry.now) (D.faults result.0.now); writes = counts (O.faults output.old) (O.faults output.new); from = O.taken output.old; to = O.taken output.new })
         (record { told = D.told disk.entry.now; faults = counts (D.faults disk.entry.now) (D.faults result.0.now); from = D.state disk.entry.now; to = D.state result.0.now })
-        ((output.new ≡ output.old) × (source.new ≡ source.old)) result.1 }
+        ((output.new ≡ output.old) × (source.new ≡ source.old)) result.1.unkept result.1.status }
     ensures lasts { LastsThrough catalogue (record { told = D.told disk.entry.now; faults = counts (D.faults disk.entry.now) (D.faults result.0.now); from = D.state disk.entry.now; to = D.state result.0.now }) }
     ensures told { D.told result.0.now ≡ D.told disk.entry.now }
     ensures loan { result.0.ghost_name ≡ L.disk }
@@ -104,11 +106,14 @@ fn run_over<'a, D: Disk, S: Source, O: ByteSink, L: Loan>(
         Ok(mut cabinet) => {
             let tally = run_and_save(alloc, &mut cabinet, source, job);
             let disk = close_cache(cabinet);
-            (disk, told_tally(output, job.kind, &tally))
+            let status = told_tally(output, job.kind, &tally);
+            let unkept = tally.unkept;
+            (disk, JobEnd { status, unkept })
         }
         Err(refusal) => {
             let (fault, disk) = refusal;
-            (disk, status_of_opening(fault))
+            let status = status_of_opening(fault);
+            (disk, JobEnd { status, unkept: 0 })
         }
     }
 }

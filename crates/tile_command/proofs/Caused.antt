@@ -225,35 +225,35 @@ module _ (h : CommandChange) (stays : Stays) (d : DiskChange) (DiskStays : Type 
   job_in : (job : Job) → jobs.IsJobIn c h.input job → IfSome h.input.from (λ text. (length text ≤ 65536) × (job_of c text ≡ Ok job))
   job_in job r = whole_text _ _ _ r.text r.read r.at_end (r.short, r.comes)
 
-  by_job : (e : Status) → RunsJob c clock h.input h.outside d DiskStays (stays.output × stays.source) e → IsCaused h d clock word.Job e
-  by_job status.Done x = (c, be, (x.0, job_in x.0 x.1, (x.2.0, x.2.2.opened, tt)))
-  by_job status.OutOfMemory x = tt
-  by_job status.ReadFault x = inr (inr x.0)
-  by_job status.TooLong x = inr (inr (c, be, over 65536 _ _ x.0.0 x.0.1 x.0.2))
-  by_job (status.Form fault) x = (c, be, job_formed fault x.0)
-  by_job status.WriteFault x = x.2.5.1
-  by_job (status.Cache cause) x = (c, be, (x.0, job_in x.0 x.1, x.2.0))
-  by_job status.DiskFault x = x.2.0
-  by_job status.CutsFull x = absurd x
-  by_job (status.Line n) x = absurd x
-  by_job (status.Stream how) x = absurd x
-  by_job status.Usage x = absurd x
-  by_job (status.Catalogue fault) x = absurd x
-  by_job status.ListenFault x = absurd x
-  by_job status.ThreadFault x = absurd x
+  by_job : (unkept : ℕ) (e : Status) → RunsJob c clock h.input h.outside d DiskStays (stays.output × stays.source) unkept e → IsCaused h d clock word.Job e
+  by_job unkept status.Done x = (c, be, (x.0, job_in x.0 x.1, (x.2.0, x.2.2.opened, tt)))
+  by_job unkept status.OutOfMemory x = tt
+  by_job unkept status.ReadFault x = inr (inr x.0)
+  by_job unkept status.TooLong x = inr (inr (c, be, over 65536 _ _ x.0.0 x.0.1 x.0.2))
+  by_job unkept (status.Form fault) x = (c, be, job_formed fault x.0)
+  by_job unkept status.WriteFault x = x.2.6.1
+  by_job unkept (status.Cache cause) x = (c, be, (x.0, job_in x.0 x.1, x.2.0))
+  by_job unkept status.DiskFault x = x.2.0
+  by_job unkept status.CutsFull x = absurd x
+  by_job unkept (status.Line n) x = absurd x
+  by_job unkept (status.Stream how) x = absurd x
+  by_job unkept status.Usage x = absurd x
+  by_job unkept (status.Catalogue fault) x = absurd x
+  by_job unkept status.ListenFault x = absurd x
+  by_job unkept status.ThreadFault x = absurd x
 
 -- ALL WORDS
 
 module _ (P : State → Type 0) (h : CommandChange) (stays : Stays) (d : DiskChange) (DiskStays : Type 0) (clock : Readings) where
-  by_word : (w : Word) (s : Status) → StatusSays P h stays d DiskStays clock (Some w) s → IsCaused h d clock w s
-  by_word (word.InMemory w) s x = by_memory h stays d clock w s x.0
-  by_word (word.Kept w) s (inl x) = subst (IsCaused h d clock (word.Kept w)) (sym x.0.1) (by_both h d clock (word.Kept w) (λ P p. p) stays.capabilities x.0.0 x.0.2)
-  by_word (word.Kept w) s (inr x) =
+  by_word : (w : Word) (unkept : ℕ) (s : Status) → StatusSays P h stays d DiskStays clock (Some w) unkept s → IsCaused h d clock w s
+  by_word (word.InMemory w) unkept s x = by_memory h stays d clock w s x.0
+  by_word (word.Kept w) unkept s (inl x) = subst (IsCaused h d clock (word.Kept w)) (sym x.0.1) (by_both h d clock (word.Kept w) (λ P p. p) stays.capabilities x.0.0 x.0.2)
+  by_word (word.Kept w) unkept s (inr x) =
       by_run h stays d DiskStays clock x.0 (read_in h.catalogue x.0 x.2.read) P x.1 (document_of h.capabilities x.1 x.2.describes) w s x.3
-  by_word (word.Upkeep w) s (inl x, first, second) = subst (IsCaused h d clock (word.Upkeep w)) (sym x.1) (by_catalogue h d clock (word.Upkeep w) x.0 x.2)
-  by_word (word.Upkeep w) s (inr x, first, second) = by_upkeep h stays d DiskStays clock x.0 (read_in h.catalogue x.0 x.1) w s x.2
-  by_word word.Job s (inl x, same) = subst (IsCaused h d clock word.Job) (sym x.1) (by_catalogue h d clock word.Job x.0 x.2)
-  by_word word.Job s (inr x, same) = by_job h stays d DiskStays clock x.0 (read_in h.catalogue x.0 x.1) s x.2
+  by_word (word.Upkeep w) unkept s (inl x, first, second) = subst (IsCaused h d clock (word.Upkeep w)) (sym x.1) (by_catalogue h d clock (word.Upkeep w) x.0 x.2)
+  by_word (word.Upkeep w) unkept s (inr x, first, second) = by_upkeep h stays d DiskStays clock x.0 (read_in h.catalogue x.0 x.1) w s x.2
+  by_word word.Job unkept s (inl x, same) = subst (IsCaused h d clock word.Job) (sym x.1) (by_catalogue h d clock word.Job x.0 x.2)
+  by_word word.Job unkept s (inr x, same) = by_job h stays d DiskStays clock x.0 (read_in h.catalogue x.0 x.1) unkept s x.2
 
 -- WHAT IS VALID IS DONE
 
@@ -308,8 +308,8 @@ module _ (h : CommandChange) (d : DiskChange) (clock : Readings) (w : Word) (val
 
 module _ (P : State → Type 0) (h : CommandChange) (stays : Stays) (d : DiskChange) (DiskStays : Type 0) (clock : Readings) where
   -- the words are a command
-  pub caused : (w : Word) (s : Status) → StatusSays P h stays d DiskStays clock (Some w) s → (read : Option Word) → read ≡ Some w → HasCause h d clock read s
-  caused w s served read is = subst (λ r. HasCause h d clock r s) (sym is) (by_word P h stays d DiskStays clock w s served)
+  pub caused : (w : Word) (unkept : ℕ) (s : Status) → StatusSays P h stays d DiskStays clock (Some w) unkept s → (read : Option Word) → read ≡ Some w → HasCause h d clock read s
+  caused w unkept s served read is = subst (λ r. HasCause h d clock r s) (sym is) (by_word P h stays d DiskStays clock w unkept s served)
 
 pub completed : (h : CommandChange) (d : DiskChange) (clock : Readings) (read : Option Word) (s : Status) → HasCause h d clock read s → IsComplete h d clock read s
 completed h d clock None s cause = tt

@@ -89,18 +89,18 @@ module _ (P : State → Type 0) (h : CommandChange) (stays : Stays) (d : DiskCha
   other_of_upkeep upkeep.Expire c done = done.0
   other_of_upkeep upkeep.Usage c done = done.0
 
-  other_of_word : (w : Word) (s : Status) → StatusSays P h stays d DiskStays clock (Some w) s → s ≡ status.Usage → ⊥
-  other_of_word (word.InMemory w) s told is = other_in_memory w s told.0 is
-  other_of_word (word.Kept w) s (inl refused) is = other_of_refusal refused.0.0 (sym refused.0.1 ∙ is)
-  other_of_word (word.Kept w) s (inr done) is = other_of_run w done.0 done.1 (subst (HasRun P h.input h.outside stays d clock w done.0 done.1) is done.3)
-  other_of_word (word.Upkeep w) s (inl refused, first, second) is = other_of_refusal refused.0 (sym refused.1 ∙ is)
-  other_of_word (word.Upkeep w) s (inr done, first, second) is = other_of_upkeep w done.0 (subst (HasKeptUp h.input (output_of h.outside) stays d DiskStays clock w done.0) is done.2)
-  other_of_word word.Job s (inl refused, same) is = other_of_refusal refused.0 (sym refused.1 ∙ is)
-  other_of_word word.Job s (inr done, same) is = subst (RunsJob done.0 clock h.input h.outside d DiskStays (stays.output × stays.source)) is done.2
+  other_of_word : (w : Word) (unkept : ℕ) (s : Status) → StatusSays P h stays d DiskStays clock (Some w) unkept s → s ≡ status.Usage → ⊥
+  other_of_word (word.InMemory w) unkept s told is = other_in_memory w s told.0 is
+  other_of_word (word.Kept w) unkept s (inl refused) is = other_of_refusal refused.0.0 (sym refused.0.1 ∙ is)
+  other_of_word (word.Kept w) unkept s (inr done) is = other_of_run w done.0 done.1 (subst (HasRun P h.input h.outside stays d clock w done.0 done.1) is done.3)
+  other_of_word (word.Upkeep w) unkept s (inl refused, first, second) is = other_of_refusal refused.0 (sym refused.1 ∙ is)
+  other_of_word (word.Upkeep w) unkept s (inr done, first, second) is = other_of_upkeep w done.0 (subst (HasKeptUp h.input (output_of h.outside) stays d DiskStays clock w done.0) is done.2)
+  other_of_word word.Job unkept s (inl refused, same) is = other_of_refusal refused.0 (sym refused.1 ∙ is)
+  other_of_word word.Job unkept s (inr done, same) is = subst (RunsJob done.0 clock h.input h.outside d DiskStays (stays.output × stays.source) unkept) is done.2
 
   -- so `Usage` is told exactly where words are no command
-  pub exactly_usage : (w : Word) (s : Status) → StatusSays P h stays d DiskStays clock (Some w) s → (read : Option Word) → read ≡ Some w → (s ≡ status.Usage) ↔ (read ≡ None)
-  exactly_usage w s told read is = ((λ usage. absurd (other_of_word w s told usage)), (λ none. absurd (no_word none)))
+  pub exactly_usage : (w : Word) (unkept : ℕ) (s : Status) → StatusSays P h stays d DiskStays clock (Some w) unkept s → (read : Option Word) → read ≡ Some w → (s ≡ status.Usage) ↔ (read ≡ None)
+  exactly_usage w unkept s told read is = ((λ usage. absurd (other_of_word w unkept s told usage)), (λ none. absurd (no_word none)))
     where
       no_word : read ≡ None → ⊥
       no_word none = cc

@@ -1,5 +1,5 @@
 -- What a command came to.
-use Rattle.std.specs.Prelude.{ℕ, ◌≡◌, ◌↔◌, Bool, IsTrue, List, Option, Some, None, ⊤}
+use Rattle.std.specs.Prelude.{ℕ, ◌≡◌, ◌≢◌, ◌↔◌, Bool, IsTrue, List, Option, Some, None, ⊤}
 use Rattle.cabinet.specs.State.{State}
 use Rattle.catalog.specs.declared.catalogue.Catalogue.{Catalogue}
 use Rattle.base.specs.Readings.{Readings}
@@ -42,14 +42,15 @@ IsFitFor (Some word.Job) text told seen = HoldsFile text told seen
 -- WHAT IT CAME TO
 
 -- What each status says, by what the words ask for; the clock has given this before. Words that are no command touch nothing. Of a run on the cache of
--- the disk P holds of the cabinet after each line of its schedule, or after each message of its session.
-abbrev pub StatusSays : (State → Type 0) → CommandChange → Stays → DiskChange → Type 0 → Readings → Option Word → Status → Type 0
-StatusSays P h stays d DiskStays clock None s = stays.catalogue × stays.capabilities × stays.input × stays.output × stays.source × DiskStays
-StatusSays P h stays d DiskStays clock (Some (word.InMemory w)) s = MemoryTells (without_disk h) stays clock w s × DiskStays
-StatusSays P h stays d DiskStays clock (Some (word.Kept w)) s = RunTells P h stays d DiskStays clock w s
-StatusSays P h stays d DiskStays clock (Some (word.Upkeep w)) s =
+-- the disk P holds of the cabinet after each line of its schedule, or after each message of its session; of a job's places so many could not be
+-- kept.
+abbrev pub StatusSays : (State → Type 0) → CommandChange → Stays → DiskChange → Type 0 → Readings → Option Word → ℕ → Status → Type 0
+StatusSays P h stays d DiskStays clock None unkept s = stays.catalogue × stays.capabilities × stays.input × stays.output × stays.source × DiskStays
+StatusSays P h stays d DiskStays clock (Some (word.InMemory w)) unkept s = MemoryTells (without_disk h) stays clock w s × DiskStays
+StatusSays P h stays d DiskStays clock (Some (word.Kept w)) unkept s = RunTells P h stays d DiskStays clock w s
+StatusSays P h stays d DiskStays clock (Some (word.Upkeep w)) unkept s =
     UpkeepTells h.catalogue h.input (output_of h.outside) stays d DiskStays clock w s × stays.capabilities × stays.source
-StatusSays P h stays d DiskStays clock (Some word.Job) s = JobTells h.catalogue h.input h.outside stays d DiskStays clock s × stays.capabilities
+StatusSays P h stays d DiskStays clock (Some word.Job) unkept s = JobTells h.catalogue h.input h.outside stays d DiskStays clock unkept s × stays.capabilities
 
 -- what a crash leaves, by what the words ask for
 abbrev pub HasLastedBy : CommandChange → DiskChange → Type 0 → Option Word → Type 0
@@ -62,7 +63,7 @@ HasLastedBy h d DiskStays (Some word.Job) = HasLasted h.catalogue d DiskStays
 -- THE CONTRACT
 
 -- what was seen of a command: of what it was handed, and that each of it stays as it is; of its disk, and that it stays so; the clock that it was
--- handed, what its words ask for, and how it ended
+-- handed, what its words ask for, how it ended, and how many places of a job could not be kept
 pub record CommandRun : Type 1 where
   pub change : CommandChange
   pub stays : Stays
@@ -71,12 +72,15 @@ pub record CommandRun : Type 1 where
   pub clock : Readings
   pub word : Option Word
   pub status : Status
+  pub unkept : ℕ
 
 -- A command is told as no command exactly where its words are none. Each status says what it came to, and comes for no other cause than its
--- own: so what is in order is done, and what is refused of the files is told. At every moment a crash leaves of the disk what the word lets it.
+-- own: so what is in order is done, and what is refused of the files is told. Where the words are no job, no place is counted. At every moment a crash
+-- leaves of the disk what the word lets it.
 pub record Commands (P : State → Type 0) (r : CommandRun) : Type 0 where
   pub usage : (r.status ≡ status.Usage) ↔ (r.word ≡ None)
-  pub served : StatusSays P r.change r.stays r.disk r.disk_stays r.clock r.word r.status
+  pub served : StatusSays P r.change r.stays r.disk r.disk_stays r.clock r.word r.unkept r.status
+  pub no_job : r.word ≢ Some word.Job → r.unkept ≡ 0
   pub cause : HasCause r.change r.disk r.clock r.word r.status
   pub complete : IsComplete r.change r.disk r.clock r.word r.status
   pub exact : IsExact r.change r.disk r.clock r.word r.status

@@ -1,5 +1,5 @@
 -- What a job on the cache of a disk came to.
-use Rattle.std.specs.Prelude.{◌≡◌, ◌⊎◌, Ok, Err}
+use Rattle.std.specs.Prelude.{ℕ, ◌≡◌, ◌⊎◌, Ok, Err}
 use Rattle.catalog.specs.declared.catalogue.Catalogue.{Catalogue}
 use Rattle.base.specs.Readings.{Readings}
 use Rattle.command_setup.specs.Setup.{Configures, IsRead}
@@ -11,8 +11,9 @@ use Rattle.tile_command.specs.Change.{Stays}
 use Rattle.command_setup.specs.Refusals.{status_of_refusal}
 use Rattle.sessions.specs.Outside.{InputChange, Outside}
 
--- what each status says of a job: the catalogue was refused and nothing else was touched, or it was read and the word ended
-abbrev pub JobTells : InputChange → InputChange → Outside → Stays → DiskChange → Type 0 → Readings → Status → Type 0
-JobTells catalogue i o stays d DiskStays clock s =
-    ((e : Unconfigured) × (s ≡ status_of_refusal e) × Configures catalogue (Err e) × stays.input × stays.output × stays.source × DiskStays)
-    ⊎ ((c : Catalogue) × IsRead catalogue (Ok c) × RunsJob c clock i o d DiskStays (stays.output × stays.source) s)
+-- what each status says of a job, and of the count of its places that could not be kept: the catalogue was refused and nothing else was touched,
+-- or it was read and the word ended
+abbrev pub JobTells : InputChange → InputChange → Outside → Stays → DiskChange → Type 0 → Readings → ℕ → Status → Type 0
+JobTells catalogue i o stays d DiskStays clock unkept s =
+    ((e : Unconfigured) × (s ≡ status_of_refusal e) × Configures catalogue (Err e) × stays.input × stays.output × stays.source × DiskStays × (unkept ≡ 0))
+    ⊎ ((c : Catalogue) × IsRead catalogue (Ok c) × RunsJob c clock i o d DiskStays (stays.output × stays.source) unkept s)

@@ -7,6 +7,7 @@ ghost use Rattle.sessions.specs.Outside.{InputChange, Outside, counts};
 ghost use Rattle.tile_command.specs.Change.{CommandChange, Stays};
 ghost use Rattle.tile_command.specs.Command.{CommandRun, Commands, IsFitFor};
 
+use crate::command_end::{CommandEnd, without_job};
 use crate::job::job_run;
 use crate::kept::on_disk;
 use crate::memory::in_memory;
@@ -24,7 +25,8 @@ use std::alloc::Global;
 /// of the input and writes the answers; `replay` serves the input as the bytes of one connection and writes the responses; `drill` and
 /// a number runs the lines that the number makes, and writes a summary: these work on a cabinet in memory, the first two with `--kept`
 /// on the cache of the disk. `make` makes that cache, `truncate` cuts the cover that the input has, `expire` drops metatiles until no
-/// quota is exceeded, `usage` tells what is kept, and `job` runs the job that the input has, place by place. Each ask and force takes its moment from the clock.
+/// quota is exceeded, `usage` tells what is kept, and `job` runs the job that the input has, place by place; the end says how many of its places were
+/// rendered and could not be kept. Each ask and force takes its moment from the clock.
 ///
 /// What it comes to stands in `Commands`: `Usage` exactly where the words are none of these (`usage`); each other status comes as `HasServed`
 /// says (`served`), and for no other cause than `HasCause` says (`cause`), so that what is in order is done, and what is refused of the files
@@ -42,7 +44,7 @@ pub fn run_command<S: Source, D: Disk, I: ByteSource, O: ByteSink>(
     source: &mut S,
     disk: &mut D,
     clock: Clock,
-) -> Status
+) -> CommandEnd
     requires { IsFitFor (word_of words.now) (I.left catalogue.old) (D.told disk.old) (D.state disk.old).seen }
     ensures { Commands (PassesDisk D D.state (D.told disk.old) (D.state disk.old) (D.state disk.new))
         (record {
@@ -57,11 +59,12 @@ pub fn run_command<S: Source, D: Disk, I: ByteSource, O: ByteSink>(
           disk_stays = (disk.new ≡ disk.old);
           clock = clock;
           word = word_of words.now;
-          status = result;
+          status = result.status;
+          unkept = result.unkept;
         }) }
 {
     match word_of(words) {
-        Some(Word::InMemory(word)) => in_memory(
+        Some(Word::InMemory(word)) => without_job(in_memory(
             alloc,
             word,
             catalogue,
@@ -70,8 +73,8 @@ pub fn run_command<S: Source, D: Disk, I: ByteSource, O: ByteSink>(
             output,
             source,
             clock,
-        ),
-        Some(Word::Kept(word)) => on_disk(
+        )),
+        Some(Word::Kept(word)) => without_job(on_disk(
             alloc,
             word,
             catalogue,
@@ -81,9 +84,11 @@ pub fn run_command<S: Source, D: Disk, I: ByteSource, O: ByteSink>(
             source,
             disk,
             clock,
-        ),
-        Some(Word::Upkeep(word)) => { kept_up(alloc, word, catalogue, input, output, disk, clock) }
+        )),
+        Some(Word::Upkeep(word)) => {
+            without_job(kept_up(alloc, word, catalogue, input, output, disk, clock))
+        }
         Some(Word::Job) => job_run(alloc, catalogue, input, output, source, disk, clock),
-        None => Status::Usage,
+        None => without_job(Status::Usage),
     }
 }

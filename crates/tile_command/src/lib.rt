@@ -8,9 +8,11 @@
 #![tactic(auto)]
 
 mod command;
+mod command_end;
 mod job;
 mod kept;
 mod memory;
 mod upkeep;
 
 pub use command::run_command;
+pub use command_end::CommandEnd;

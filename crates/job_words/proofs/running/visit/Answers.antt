@@ -15,4 +15,4 @@ returns-clause-comes g c =
     let told = S.told c.args.source.now in
     visit_comes told before after x y c.args.job.now c.requires.rest
     (λ m force gained result meta steps came later cause. c.laws_of_lone_threads.ensures.refreshes told x y m force before after gained result c.requires.valid meta c.requires.rest steps came later cause)
-    (λ m is. c.laws_of_places.ensures.metas x.state.catalogue c.args.job.now m c.requires.valid c.requires.fits.cover is) did.still c.args.place (fronted (now y.state)) did.visits.gained did.visits.gains c.visit.result did.visits.visit
+    (λ m is. c.laws_of_places.ensures.metas x.state.catalogue c.args.job.now m c.requires.valid c.requires.fits.cover is) did.still c.args.place (fronted (now y.state)) (S.gave c.args.source.now) (S.gave c.visit.new.source) did.visits.gained did.visits.gains c.visit.result did.visits.visit

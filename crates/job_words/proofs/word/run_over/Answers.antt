@@ -27,7 +27,7 @@ returns-in-Ok-clause-runs g c =
     rw same
     (job_tells _ _ c.args.job.now _ _ _ first.state last.state runs.0
     (has_opened _ _ _ _ _ (faults c.args.disk.now) (faults first.file.disk.disk.now) (faults last.file.disk.disk.now) first.file.journal last.file.journal _ _ _ _ _ c.requires.valid o.opened outlasts.same_catalogue told o.later o.settled outlasts.settled (rw (sym same) c.close_cache-disk.ensures.closed))
-    runs.2 work.result runs.1 c.told_tally.result c.told_tally.ensures)
+    runs.2 work.result runs.1 c.told_tally-status.result c.told_tally-status.ensures)
 
 pub returns-in-Ok-clause-lasts : goal.returns-in-Ok-clause-lasts
 returns-in-Ok-clause-lasts g c =

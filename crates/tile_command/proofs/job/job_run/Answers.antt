@@ -1,5 +1,5 @@
 use Rattle.command_setup.proofs.Fitting.{may_be}
 use Rattle.tile_command.proofs.job.job_run.Goals as goal
 
-pub run_job-requires-clause-ours : goal.run_job-requires-clause-ours
-run_job-requires-clause-ours g c = c.requires _ (may_be _ _ c.in-Ok.ensures.configures)
+pub run_job-status-requires-clause-ours : goal.run_job-status-requires-clause-ours
+run_job-status-requires-clause-ours g c = c.requires _ (may_be _ _ c.in-Ok.ensures.configures)
