@@ -1,7 +1,7 @@
 -- Copies that were made stay while others are made.
 use Rattle.std.proofs.Common.{ℕ, ◌≡◌, ◌+◌, ◌≤◌, Bool, true, false, List, [], ◌∷◌, ◌++◌, length, length-append, inl, inr, refl, sym, ap, subst, ◌∙◌, arith, append_assoc, append-nil}
 use Rattle.std.specs.List.{AllByRecursion}
-use Rattle.base.specs.Causes.{Rose}
+use Rattle.base.specs.Causes.{Rose, RoseBy}
 use Rattle.cabinet.specs.declared.kept.Kept.{Kept}
 use Rattle.cabinet.specs.Gaps.{AreDisjoint, region}
 use Rattle.cabinet.proofs.Lists.{all_push}
@@ -61,8 +61,7 @@ module _ (from : ℕ) (seen : Content) (start : ℕ) (old new : DiskState) (t : 
       let apart = apart_from_last us t (part_disjoint (us ++ t ∷ []) all together disjoint) in
       subst (AllByRecursion (IsCopyOn from seen start new)) (sym notes.0) (stays us apart before)
 
--- one is unread only where the count rose
-pub unread_more : (t : Kept) (is : Bool) (us vs : List Kept) (n m a b e : ℕ) → Notes t is us n vs m → a ≤ b → b ≤ e → (1 ≤ n → Rose a b) → (is ≡ false → Rose b e) → 1 ≤ m → Rose a e
-unread_more t true us vs n m a b e notes first next before here some =
-    let is = notes.1 in let rose : Rose a b = before (omega (arith, is, some)) in omega (arith, first, next, rose)
-unread_more t false us vs n m a b e notes first next before here some = let rose : Rose b e = here refl in omega (arith, first, next, rose)
+-- each one that is unread has a fault of its own
+pub unread_more : (t : Kept) (is : Bool) (us vs : List Kept) (n m a b e : ℕ) → Notes t is us n vs m → a ≤ b → b ≤ e → RoseBy n a b → (is ≡ false → Rose b e) → RoseBy m a e
+unread_more t true us vs n m a b e notes first next before here = let same = notes.1 in omega (arith, same, first, next, before)
+unread_more t false us vs n m a b e notes first next before here = let rose : Rose b e = here refl in let more = notes.1 in omega (arith, more, first, next, before, rose)

@@ -1,7 +1,7 @@
 //! How a cache is taken over by a changed catalogue.
 ghost use Rattle.std.specs.List.{AllByRecursion};
 ghost use Rattle.std.specs.Prelude.{◌≡◌, ◌≤◌, ◌<◌, ◌^◌, ◌⊎◌, IfErr, IfOk, IsTrue, length};
-ghost use Rattle.base.specs.Causes.{Rose};
+ghost use Rattle.base.specs.Causes.{Rose, RoseBy};
 ghost use Rattle.cabinet.specs.Fresh.{MayBeginWith};
 ghost use Rattle.carry_over.specs.Copied.{IsWhole};
 ghost use Rattle.carry_over.specs.Taken.{IsCarryFault, IsCopied, IsLateFault, IsTakenFrom, IsTakenOver, opening_of, opening_with};
@@ -69,7 +69,7 @@ fn carry_into<D: Disk, E: Disk>(
     ensures copied { IsTrue (D.told old.old) → IsTrue (E.told new.old.disk) → IfOk result (λ n. IsCopied to.now (opening_with plan.now.number plan.now.floor plan.now.cuts.items plan.now.chosen.kept.items) start (D.state old.old).seen (E.state new.new.disk).may_leave n.kept n.unread) }
     ensures cuts { IfOk result (λ n. n.cuts ≡ length plan.now.cuts.items) }
     ensures roomless { IfOk result (λ n. n.roomless ≡ plan.now.chosen.roomless) }
-    ensures unread { IfOk result (λ n. 1 ≤ n.unread → Rose (D.faults old.old) (D.faults old.new)) }
+    ensures unread { IfOk result (λ n. RoseBy n.unread (D.faults old.old) (D.faults old.new)) }
     ensures failed { IfErr result (λ fault. (fault ≡ CarryFault.OutOfMemory) ⊎ ((fault ≡ CarryFault.NewDisk) × Rose (E.faults new.old.disk) (E.faults new.new.disk))) }
 {
     let mut kept = Vec::new(alloc);
@@ -117,7 +117,7 @@ fn carry_restored<D: Disk, E: Disk>(
     ensures quiet { IsTrue (D.told old) → ChangesBy Same (D.state old) (D.state result.old) }
     ensures old_later { D.faults old ≤ D.faults result.old }
     ensures taken { IsTrue (D.told old) → IsTrue (E.told new) → IfOk result.end (λ n. IsTakenFrom from.now to.now (opening_of restored.now.opening restored.now.kept.items restored.now.cuts.book) (D.state old).seen (E.state result.new).may_leave n.kept n.cuts n.roomless n.unread) }
-    ensures unread { IfOk result.end (λ n. 1 ≤ n.unread → Rose (D.faults old) (D.faults result.old)) }
+    ensures unread { IfOk result.end (λ n. RoseBy n.unread (D.faults old) (D.faults result.old)) }
     ensures new_told { E.told result.new ≡ E.told new }
     ensures new_later { E.faults new ≤ E.faults result.new }
     ensures cause { IfErr result.end (IsLateFault to.now restored.now.opening restored.now.cuts.book (E.told new) (E.faults new) (E.faults result.new)) }
@@ -175,7 +175,7 @@ pub fn carry<D: Disk, E: Disk>(
     ensures quiet { IsTrue (D.told old) → ChangesBy Same (D.state old) (D.state result.old) }
     ensures old_later { D.faults old ≤ D.faults result.old }
     ensures taken { IsTrue (D.told old) → IsTrue (E.told new) → IfOk result.end (λ n. IsTakenOver from.now to.now (D.state old).seen (E.state result.new).may_leave n.kept n.cuts n.roomless n.unread) }
-    ensures unread { IfOk result.end (λ n. 1 ≤ n.unread → Rose (D.faults old) (D.faults result.old)) }
+    ensures unread { IfOk result.end (λ n. RoseBy n.unread (D.faults old) (D.faults result.old)) }
     ensures new_told { E.told result.new ≡ E.told new }
     ensures new_later { E.faults new ≤ E.faults result.new }
     ensures cause { IfErr result.end (IsCarryFault (D.told old) from.now to.now (D.state old).seen (D.faults old) (D.faults result.old) (E.told new) (E.faults new) (E.faults result.new)) }

@@ -1,7 +1,7 @@
 //! How the blobs of what is taken over come from the disk of the old cache into the file of the new one.
 ghost use Rattle.std.specs.List.{AllByRecursion};
 ghost use Rattle.std.specs.Prelude.{◌≡◌, ◌≤◌, ◌<◌, ◌^◌, ◌+◌, ℕ, List, [], true, false, IfErr, IfOk, IsTrue, OnOk, length};
-ghost use Rattle.base.specs.Causes.{Rose};
+ghost use Rattle.base.specs.Causes.{Rose, RoseBy};
 ghost use Rattle.cabinet.specs.Gaps.{AreDisjoint};
 ghost use Rattle.cache_file.specs.File.{HoldsBlob, IsApart};
 ghost use Rattle.carry_over.specs.Chosen.{IsPartOf};
@@ -120,7 +120,7 @@ pub fn copy_all<D: Disk, E: Disk>(
     ensures whole { IsWhole (E.told new.new.disk) new.new.journal (E.state new.new.disk) }
     ensures part { OnOk result (IsPartOf kept.new.items chosen.now) }
     ensures count { IfOk result (λ unread. length kept.new.items + unread ≡ length chosen.now) }
-    ensures unread { IfOk result (λ unread. 1 ≤ unread → Rose (D.faults old.old) (D.faults old.new)) }
+    ensures unread { IfOk result (λ unread. RoseBy unread (D.faults old.old) (D.faults old.new)) }
     ensures copied { IsTrue (D.told old.old) → IsTrue (E.told new.old.disk) → OnOk result (AllByRecursion (IsCopyOn start (D.state old.old).seen new.old.start (E.state new.new.disk)) kept.new.items) }
     ensures old_later { D.faults old.old ≤ D.faults old.new }
     ensures later { E.faults new.old.disk ≤ E.faults new.new.disk }
