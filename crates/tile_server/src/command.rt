@@ -3,7 +3,7 @@ ghost use Rattle.std.specs.Prelude.{◌<◌};
 
 use crate::cache::{no_cache, open_cache, tell_unfit};
 use crate::catalogue_copies::keep_copy_of;
-use crate::endings::{WorkedFile, end_with};
+use crate::endings::{WorkedFile, end_with, tell_unkept};
 use crate::job_input::{JobInput, read_ahead};
 use crate::{CACHE, CAPABILITIES, CELLS, CatalogueInput, catalogue_of, exit_code, without_source};
 use base::Clock;
@@ -87,7 +87,7 @@ where
     let mut capabilities = Input::File(FileSource::open(&rt, CAPABILITIES));
     let mut output = StdoutSink::new(rt.stdout());
     let mut disk = cache_for(rt, words, grain, is_watched);
-    let status = run_command(
+    let end = run_command(
         rt.alloc(),
         words,
         &mut catalogue,
@@ -100,5 +100,7 @@ where
     );
     tell_unfit(&rt, &disk.files);
     keep_copy_of(&rt, &disk.files.disk);
-    end_with(&rt, status, &[WorkedFile::of(CACHE, &disk.files.disk)])
+    let cache = WorkedFile::of(CACHE, &disk.files.disk);
+    tell_unkept(&rt, end.unkept, &cache);
+    end_with(&rt, end.status, &[cache])
 }

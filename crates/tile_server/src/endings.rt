@@ -54,6 +54,23 @@ impl WorkedFile {
     }
 }
 
+/// Tells how many places of a job were rendered and could not be kept, where there are any, and behind it what the system said last of the
+/// cache's file.
+pub fn tell_unkept(rt: &impl Eprint, unkept: u64, cache: &WorkedFile) {
+    if unkept == 0 {
+        return;
+    }
+    let places = if unkept == 1 {
+        "place was"
+    } else {
+        "places were"
+    };
+    let _ = eprintln!(rt;
+        "{unkept} {places} not kept: keptLimit or blobBytes is reached, or the disk is full or fails; make room, and run the job again"
+    );
+    cache.tell(rt);
+}
+
 /// Reads the first byte of a file.
 fn read_first(rt: &impl Files<File = File>, name: &str) -> io::Result<()> {
     let mut file = File::open(rt, name)?;

@@ -121,8 +121,9 @@ const JOB: &str = "tile_server job < JOB
 tile_server job --dry-run < JOB
 
 Runs a seed, a reseed or a truncation, place by place, and writes `job TYPE places N done N failed N`. A job is a cover with `type` and
-`threads`. Where standard error is a terminal it tells every second how far it is. With --dry-run it writes `places N bytes N`, how many
-metatiles the job would visit and how many bytes they take, and opens no cache.
+`threads`. How many of those done were rendered and could not be kept is told on standard error; where that is a terminal it tells every
+second how far it is. With --dry-run it writes `places N bytes N`, how many metatiles the job would visit and how many bytes they take,
+and opens no cache.
 ";
 
 const LIST: &str = "tile_server list

@@ -35,6 +35,8 @@ impl Source for SourceFake {
 
     ghost faults = { λ s. s.faults };
 
+    ghost gave = { λ s. ⟦<Scripted as Source>⟧.gave s.scripted };
+
     fn render(
         &mut self,
         catalogue: &Catalogue,

@@ -32,7 +32,7 @@ fn line_of(alloc: Global, code: u8, end: &impl Display) -> Result<String, AllocE
     format!(in alloc; "{code} {end}")
 }
 
-/// Runs `run_command` over any objects.
+/// Runs `run_command` over any objects, for its status.
 fn status_of<S: Source, D: Disk, I: ByteSource, O: ByteSink>(
     alloc: Global,
     words: &[Words],
@@ -57,6 +57,7 @@ fn status_of<S: Source, D: Disk, I: ByteSource, O: ByteSink>(
         disk,
         clock,
     )
+    .status
 }
 
 /// Runs the words of a feed over these objects.
