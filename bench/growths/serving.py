@@ -1,5 +1,6 @@
 """A server whose growths are refused: while it starts, serves and ends, and while it answers one message after the other."""
 import json
+import re
 import socket
 import subprocess
 import time
@@ -12,6 +13,9 @@ from honest import Book, Broken, demand, response_at
 from messages import messages_of
 from program import free_port, read_to_end
 from refusals import EVER
+
+# The lines with which a server tells that it is ready, and that it has served all.
+READY_OR_SERVED = re.compile(r"(?m)^(serving on port \d+(, ready in \d+ ms)?|served \d+ connections?, and ended)\n")
 
 BIG = b"GET /rest/wmts/large/grey/large/0/0/0.ppm HTTP/1.1\r\nConnection: close\r\n\r\n"
 
@@ -124,12 +128,12 @@ class Served:
             demand(head[1] == b"404" or PROGRESS.fullmatch(body), "another progress")
 
     def ended(self, seconds=20):
-        """The code and the line that the server ended with."""
+        """The code that the server ended with, and what it told but that it was ready and that it has served all."""
         try:
             self.process.wait(seconds)
         except subprocess.TimeoutExpired as expired:
             raise Broken("the server doesn't end") from expired
-        return self.process.returncode, self.process.stderr.read().decode("utf-8", "replace")
+        return self.process.returncode, READY_OR_SERVED.sub("", self.process.stderr.read().decode("utf-8", "replace"))
 
     def stop(self):
         if self.process.poll() is None:

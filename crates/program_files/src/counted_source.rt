@@ -75,6 +75,8 @@ impl<R: Clock + Eprint + Drop, S: Source> Source for CountedSource<R, S> {
 
     ghost faults = { λ c. S.faults c.source };
 
+    ghost gave = { λ c. S.gave c.source };
+
     fn render(
         &mut self,
         catalogue: &Catalogue,

@@ -23,11 +23,13 @@ pub enum ProgramSource<'a, R: Files<File = File> + Net + Clock + Wait + Eprint +
 
 impl<'a, R: Files<File = File> + Net + Clock + Wait + Eprint + Drop> Source
     for ProgramSource<'a, R> {
-    ghost use Rattle.program_files.specs.Sources.{faults_of_source, told_of_source};
+    ghost use Rattle.program_files.specs.Sources.{faults_of_source, given_by_source, told_of_source};
 
     ghost told = { λ s. told_of_source s };
 
     ghost faults = { λ s. faults_of_source s };
+
+    ghost gave = { λ s. given_by_source s };
 
     fn render(
         &mut self,

@@ -14,8 +14,8 @@ use command_status::Status;
 use command_words::{ServeFault, ServeWords, serve_words};
 use exact_ratio::Words;
 use http_wire::FileSource;
-use program_files::{Input, ProgramSource, SourceChoice, Watch};
-use server_command::run_server;
+use program_files::{Input, ProgramSource, SourceChoice, Watch, WatchedListener};
+use server_command::{ServerEnd, run_server};
 use server_workers::SOURCES;
 use std::alloc::AllocError;
 use std::fs::File;
@@ -45,6 +45,18 @@ where
     Ok(sources)
 }
 
+/// Tells that a server has served all its connections, where it has. How else it ended has a line of its own.
+fn tell_served(rt: &impl Eprint, end: &ServerEnd, connections: u32) {
+    if let ServerEnd::Ended(Status::Done) = end {
+        let noun = if connections == 1 {
+            "connection"
+        } else {
+            "connections"
+        };
+        let _ = eprintln!(rt; "served {connections} {noun}, and ended");
+    }
+}
+
 /// Serves so many connections at a port. The sources are sent to threads and open their files there, so all that the runtime opens may go
 /// there, folders among it.
 fn serve_links<R>(rt: &R, words: ServeWords, clock: Clock) -> ExitCode
@@ -63,6 +75,7 @@ where
     R::Dir: Send + Sync,
     requires { (1 ≤ words.connections) × (words.connections ≤ 1000000) }
 {
+    let began = rt.monotonic().ok();
     let CatalogueInput {
         input: mut catalogue,
         source,
@@ -90,10 +103,11 @@ where
         );
     }
     keep_copy_of(rt, &cache.files.disk);
-    let mut listener = match TcpAccept::bind(*rt, rt.alloc(), words.port) {
-        Ok(listener) => listener,
+    let accept = match TcpAccept::bind(*rt, rt.alloc(), words.port) {
+        Ok(accept) => accept,
         Err(error) => return exit_code(rt, status_of_error(&error)),
     };
+    let mut listener = WatchedListener::new(*rt, accept, words.port, began);
     let end = run_server(
         rt,
         rt.alloc(),
@@ -108,6 +122,7 @@ where
         Snapshot::of(&false),
     );
     tell_unfit(rt, &cache.files);
+    tell_served(rt, &end, words.connections);
     server_ended(rt, end, &[WorkedFile::of(CACHE, &cache.files.disk)])
 }
 
